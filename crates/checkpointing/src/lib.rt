@@ -1,0 +1,3 @@
+// The forward state from checkpoints: interpolation between knots.
+pub mod hermite;
+pub mod interpolator;
