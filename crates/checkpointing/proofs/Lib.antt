@@ -1,3 +1,4 @@
 pub mod Rows
 pub mod LookUps
 pub mod Pushes
+pub mod Belonging

@@ -1,2 +1,3 @@
 pub mod Knots
 pub mod Weights
+pub mod Segments
