@@ -40,13 +40,13 @@ module _ {N : Type 0} (o : Ops N) where
       let long : length out ≡ length (knotOf o dim a .u) = q ∙ sym (state-length dim a p) in
       fill-by-all f out (length (knotOf o dim a .u)) (o .whole 0) long
       (λ k r.
-       let s : k < dim = omega (arith, long) in
-       let u0 = state-at dim a k s in
-       let f0 = slope-at dim a k in
-       let u1 = state-at dim b k s in
-       let f1 = slope-at dim b k in
-       let e = h k s in
-       cc)
+      let s : k < dim = omega (arith, long) in
+      let u0 = state-at dim a k s in
+      let f0 = slope-at dim a k in
+      let u1 = state-at dim b k s in
+      let f1 = slope-at dim b k in
+      let e = h k s in
+      cc)
 
 -- a row that is written by its parts
 pub row-made : {N : Type 0} (row u f y z : List N) (t : N) → y ≡ u → z ≡ f → length row ≡ 1 + length u + length f

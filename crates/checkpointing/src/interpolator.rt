@@ -44,7 +44,12 @@ impl<'a, N: Scalar> HermiteInterpolator<'a, N> {
         if len == 0 || dim > (len - 1) / 2 {
             return None;
         }
-        Some(HermiteInterpolator { rows, dim, width: 1 + 2 * dim, count: 0 })
+        Some(HermiteInterpolator {
+            rows,
+            dim,
+            width: 1 + 2 * dim,
+            count: 0,
+        })
     }
 
     // One knot more, after the others; false, and all stays, where it has another size or there is no room for it.

@@ -2,14 +2,14 @@
 // belongs to and the forward state there, interpolated between the checkpoints around it.
 mod ride;
 
+use checkpointing::segments::segment_of;
 use ride::Checkpoint;
 use ride::checkpoints;
 use ride::ends;
 use ride::state_at;
 use ride::time_of;
-use checkpointing::segments::segment_of;
-use scalar::floats::F64Scalar;
 use scalar::times::Finite64;
+use scalar::times::binary64::F64Scalar;
 use std::alloc::Global;
 use std::error::AnyError;
 use std::io::BufWriter;
@@ -22,7 +22,13 @@ use tables::FaultDisplay;
 const LARGEST: u64 = 9007199254740992;
 
 // One line of the output: the instant, its segment and the state there, or `-` for what there is none of.
-fn show(heap: Global, out: &mut BufWriter<Stdout>, points: &[Checkpoint], bounds: &[(Finite64, Finite64)], n: i64) -> Result<(), AnyError> {
+fn show(
+    heap: Global,
+    out: &mut BufWriter<Stdout>,
+    points: &[Checkpoint],
+    bounds: &[(Finite64, Finite64)],
+    n: i64,
+) -> Result<(), AnyError> {
     let t = time_of(n)?;
     let Some(segment) = segment_of::<f64>(bounds, t) else {
         writeln!(out, "{n} - - -")?;
@@ -49,7 +55,13 @@ fn run(rt: &LibcRuntime) -> Result<(), AnyError> {
     writeln!(out, "t segment z v")?;
     let samples = ride.samples.as_slice();
     for k in 0..samples.len() / 2 {
-        show(heap, &mut out, points.as_slice(), bounds.as_slice(), samples[2 * k])?;
+        show(
+            heap,
+            &mut out,
+            points.as_slice(),
+            bounds.as_slice(),
+            samples[2 * k],
+        )?;
     }
     out.flush()?;
     Ok(())

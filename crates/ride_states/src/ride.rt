@@ -1,7 +1,7 @@
 // A ride of the contact model in f64: its checkpoints, the ends of its segments, and the state at an instant.
 use checkpointing::interpolator::HermiteInterpolator;
-use scalar::floats::F64Scalar;
 use scalar::times::Finite64;
+use scalar::times::binary64::F64Scalar;
 use scalar::whole::integer;
 use std::alloc::Global;
 use std::error::AnyError;
@@ -31,7 +31,12 @@ fn checkpoint(row: &[i64]) -> Result<Checkpoint, AnyError> {
     let Ok(segment) = usize::try_from(segment) else {
         return Err("a segment's number is not negative".into());
     };
-    Ok(Checkpoint { segment, t: time_of(t)?, state: [integer(z), integer(v)], slope: [integer(dz), integer(dv)] })
+    Ok(Checkpoint {
+        segment,
+        t: time_of(t)?,
+        state: [integer(z), integer(v)],
+        slope: [integer(dz), integer(dv)],
+    })
 }
 
 pub fn checkpoints(heap: Global, numbers: &[i64]) -> Result<Vec<Checkpoint>, AnyError> {
@@ -60,7 +65,12 @@ pub fn ends(heap: Global, points: &[Checkpoint]) -> Result<Vec<(Finite64, Finite
 }
 
 // The state at t between the checkpoints of a segment, which are taken as knots.
-pub fn state_at(heap: Global, points: &[Checkpoint], segment: usize, t: Finite64) -> Result<Option<[f64; 2]>, AnyError> {
+pub fn state_at(
+    heap: Global,
+    points: &[Checkpoint],
+    segment: usize,
+    t: Finite64,
+) -> Result<Option<[f64; 2]>, AnyError> {
     let mut rows = vec![in heap; 0.0; points.len().saturating_mul(5)]?;
     let mut out = [0.0; 2];
     let Some(mut knots) = HermiteInterpolator::new(rows.as_mut_slice(), 2) else {
@@ -71,5 +81,9 @@ pub fn state_at(heap: Global, points: &[Checkpoint], segment: usize, t: Finite64
             let _ = knots.push(p.t, &p.state, &p.slope);
         }
     }
-    Ok(if knots.interpolate(t, &mut out) { Some(out) } else { None })
+    Ok(if knots.interpolate(t, &mut out) {
+        Some(out)
+    } else {
+        None
+    })
 }

@@ -7,7 +7,6 @@ use lib.Dec.{T, T-prop}
 use lib.Ieee.{Float, Format, le}
 use borrow.Author.Tests.{both-ways}
 use Rattle.std.specs.Floats as Floats
-use Rattle.std.specs.Options.{Cases}
 use Rattle.std.specs.declared.option.Option.{Option}
 use Rattle.std.specs.declared.option.Option.the-variants.{Some, None}
 use Rattle.scalar.specs.Kind.{Lawful}
@@ -18,18 +17,13 @@ module _ {M : Type 0} (make : (v : Float) → T (Floats.finite v) → M) (value 
   at-own : (t : M) (p : Floats.finite (value t) ≡ true) → Some t ≡ timed make (value t) true p
   at-own t p = ap Some (made t ∙ ap (make (value t)) (T-prop (Floats.finite (value t)) (ok t) _))
 
-  some-is : (t : M) (v : Float) → value t ≡ v → (b : Bool) (p : Floats.finite v ≡ b) → Floats.finite v ≡ true → Some t ≡ timed make v b p
+  pub some-is : (t : M) (v : Float) → value t ≡ v → (b : Bool) (p : Floats.finite v ≡ b) → Floats.finite v ≡ true → Some t ≡ timed make v b p
   some-is t v e true p h = let P : Float → Type 0 = λ w. (q : Floats.finite w ≡ true) → Some t ≡ timed make w true q in subst P e (at-own t) p
   some-is t v e false p h = absurd (both-ways _ p h)
 
-  none-is : (v : Float) (b : Bool) (p : Floats.finite v ≡ b) → Floats.finite v ≡ false → None ≡ timed make v b p
+  pub none-is : (v : Float) (b : Bool) (p : Floats.finite v ≡ b) → Floats.finite v ≡ false → None ≡ timed make v b p
   none-is v true p h = absurd (both-ways _ h p)
   none-is v false p h = refl
-
-  -- what a constructor that tests for finiteness answers
-  pub time-is : (v : Float) (r : Option M) → Cases r (Floats.finite v ≡ false) (λ t. (Floats.finite v ≡ true) × (value t ≡ v)) → r ≡ timed make v (Floats.finite v) refl
-  time-is v (Some t) h = some-is t v (h .1) (Floats.finite v) refl (h .0)
-  time-is v None h = none-is v (Floats.finite v) refl h
 
   value-at : (v : Float) (t : M) (b : Bool) (p : Floats.finite v ≡ b) → timed make v b p ≡ Some t → value t ≡ v
   value-at v t true p e = let z : make v (subst T (sym p) tt) ≡ t = cc in sym (ap value z) ∙ back v _

@@ -1,6 +1,5 @@
 // Number kinds, and sums and products over them. A routine that is written once, for every kind, needs of its numbers
 // what `Scalar` offers, and nothing above this crate knows which kind it works on.
-pub mod floats;
 pub mod matrix;
 pub mod nan;
 pub mod order;

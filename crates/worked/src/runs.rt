@@ -1,8 +1,8 @@
 // The rows of the table, run.
 use checkpointing::interpolator::HermiteInterpolator;
 use scalar::Scalar;
-use scalar::floats::F32Scalar;
-use scalar::floats::F64Scalar;
+use scalar::times::binary32::F32Scalar;
+use scalar::times::binary64::F64Scalar;
 use std::alloc::AllocError;
 use std::alloc::Global;
 use std::test::*;
@@ -17,7 +17,13 @@ fn filled<N: Scalar + Drop>(heap: Global, x: u64, n: usize) -> Result<Vec<N>, Al
 }
 
 // One knot more: whether the list took it.
-fn push<N: Scalar + Drop>(heap: Global, list: &mut HermiteInterpolator<N>, t: u64, u: u64, f: u64) -> Result<bool, Fail> {
+fn push<N: Scalar + Drop>(
+    heap: Global,
+    list: &mut HermiteInterpolator<N>,
+    t: u64,
+    u: u64,
+    f: u64,
+) -> Result<bool, Fail> {
     let u = filled::<N>(heap, u, 1)?;
     let f = filled::<N>(heap, f, 1)?;
     let at = N::whole(t).time().ok_or("no time")?;

@@ -76,8 +76,8 @@ returns g c =
     let e = ap asks (sym (c .value-t .ensures)) ∙ answer-is o K t (s .dim) (length old) (s .count) (Some (between o (K j) (K (j + 1)) t)) (omega arith) (asked-two o K t (s .count) j (omega arith) (c .lower-j .ensures) (c .if-outside .ensures tt) (c .if-equals .ensures tt ∙ ap (o .equal t) (c .time .ensures))) in
     let n : length old ≡ s .dim = omega arith in
     let filled =
-        c .fill-between .ensures
-        ∙ ap (λ m. between o (knotOf o m (c .row-2 .result .now)) (knotOf o m (c .row-3 .result .now)) t) n
-        ∙ ap (λ r. between o (knotOf o (s .dim) r) (knotOf o (s .dim) (c .row-3 .result .now)) t) (c .row-2 .ensures .row)
-        ∙ ap (λ r. between o (K j) (knotOf o (s .dim) r) t) (c .row-3 .ensures .row) in
+    c .fill-between .ensures
+    ∙ ap (λ m. between o (knotOf o m (c .row-2 .result .now)) (knotOf o m (c .row-3 .result .now)) t) n
+    ∙ ap (λ r. between o (knotOf o (s .dim) r) (knotOf o (s .dim) (c .row-3 .result .now)) t) (c .row-2 .ensures .row)
+    ∙ ap (λ r. between o (K j) (knotOf o (s .dim) r) t) (c .row-3 .ensures .row) in
     record { found = ap isSome (sym e); out = filled ∙ ap (λ x. valueOr x old) (sym e) }

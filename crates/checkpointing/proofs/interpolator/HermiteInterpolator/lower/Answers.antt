@@ -22,8 +22,8 @@ returns g c =
     let K = knotAt o (s .dim) (s .rows .now) in
     let n = c .loop-n .n in
     let last : n - 1 ≡ lastNotAfter o K (c .args .t) n =
-        elim (c .loop-n-test .came) [
-          then-loop-n-test·else-before w ↦ sym (stopped o K (c .args .t) n (omega arith) (sym (w .if-before .ensures tt ∙ ap (o .before (c .args .t)) (w .time .ensures))))
-        | else-loop-n-test w ↦ sym (at-first o K (c .args .t) n (omega (arith, w .loop-n-test .left)))
-        ] in
+    elim (c .loop-n-test .came) [
+      | then-loop-n-test·else-before w ↦ sym (stopped o K (c .args .t) n (omega arith) (sym (w .if-before .ensures tt ∙ ap (o .before (c .args .t)) (w .time .ensures))))
+      | else-loop-n-test w ↦ sym (at-first o K (c .args .t) n (omega (arith, w .loop-n-test .left)))
+    ] in
     c .min .ensures ∙ ap (λ m. min m (s .count - 2)) (last ∙ c .loop-n .inv .2)

@@ -22,9 +22,9 @@ returns g c =
     let room : Room (1 + 2 * s .dim) = subst Room (s .wide) (omega (arith, ap length old)) in
     let row : c .fill-row .last .row ≡ t ∷ (u ++ f) = c .fill-row .ensures ∙ ap (λ x. x ∷ (u ++ f)) (c .value .ensures) in
     let rows =
-        putMid-paste (s .count * w) (s .count * w + w - s .count * w) (c .replace-rows .result .now) (c .fill-row .last .row) (t ∷ (u ++ f)) w row (omega arith) (omega (arith, length-append u f))
-        ∙ ap (λ xs. paste xs (s .count * w) (t ∷ (u ++ f)) w) old
-        ∙ ap (λ n. paste (s .rows .now) (s .count * n) (t ∷ (u ++ f)) n) (s .wide) in
+    putMid-paste (s .count * w) (s .count * w + w - s .count * w) (c .replace-rows .result .now) (c .fill-row .last .row) (t ∷ (u ++ f)) w row (omega arith) (omega (arith, length-append u f))
+    ∙ ap (λ xs. paste xs (s .count * w) (t ∷ (u ++ f)) w) old
+    ∙ ap (λ n. paste (s .rows .now) (s .count * n) (t ∷ (u ++ f)) n) (s .wide) in
     record {
       made = passes (length u) (length f) (s .dim) (s .count) (1 + 2 * s .dim) (length (s .rows .now)) (omega arith) (omega arith) room;
       rows = rows;

@@ -1,6 +1,6 @@
 use mathlib.Core.Path.{refl}
 use lib.Ieee.{ofBits}
-use Rattle.scalar.proofs.floats.F64Scalar.root_eps.Needs as need
+use Rattle.scalar.proofs.times.binary64.F64Scalar.eps.Needs as need
 
 pub returns : need.returns
 unfolding ofBits
