@@ -14,8 +14,8 @@ use Rattle.std.proofs.shelf.Counted.{fill-by-all}
 use Rattle.checkpointing.specs.Knots.{Knot, knotOf, rowAt, hermite, between}
 
 module _ {N : Type 0} (o : Ops N) where
-  pub row-is : (rows : List N) (k w v : ℕ) → w ≡ v → take ((k * w + w) - k * w) (drop (k * w) rows) ≡ rowAt o v rows k
-  row-is rows k w v e = ap (λ n. take n (drop (k * w) rows)) (omega arith) ∙ ap (λ n. rowAt o n rows k) e
+  pub row-is : (rows : List N) (k w : ℕ) → take ((k * w + w) - k * w) (drop (k * w) rows) ≡ rowAt o w rows k
+  row-is rows k w = let e : (k * w + w) - k * w ≡ w = omega arith in ap (λ n. take n (drop (k * w) rows)) e
 
   pub row-length : (rows : List N) (k w : ℕ) → k * w + w ≤ length rows → length (rowAt o w rows k) ≡ w
   row-length rows k w h = length-take-le w (drop (k * w) rows) (omega (arith, length-drop (k * w) rows))

@@ -9,7 +9,7 @@ ghost use denote.Ref.{name};
 ghost use lib.Dec.{eqb, leb};
 ghost use lib.ListN.{length};
 ghost use lib.Seq.{paste};
-ghost use Rattle.std.specs.Options.{Cases, isSome, valueOr};
+ghost use Rattle.std.specs.Options.{isSome, valueOr};
 ghost use Rattle.checkpointing.specs.Knots.{rowAt, knotAt, knots, lastNotAfter, answer};
 
 // The rows lie in the slice one after the other, so that whoever lends it keeps the memory.
@@ -17,10 +17,8 @@ ghost use Rattle.checkpointing.specs.Knots.{rowAt, knotAt, knots, lastNotAfter
 pub struct HermiteInterpolator<'a, N: Scalar> {
     rows: &'a mut [N],
     dim: usize,
-    width: usize,
     count: usize,
-    ghost wide: { width ≡ 1 + 2 * dim },
-    ghost room: { count * width ≤ length (rows .now) },
+    ghost room: { count * (1 + 2 * dim) ≤ length (rows .now) },
 }
 
 // A row: the knot's time, its state and its slope.
@@ -36,20 +34,18 @@ fn fill_row<N: Scalar>(row: &mut [N], t: N, u: &[N], f: &[N])
 }
 
 impl<'a, N: Scalar> HermiteInterpolator<'a, N> {
-    // No knots yet, of states with `dim` entries; None where not even one knot has room.
-    pub fn new(rows: &'a mut [N], dim: usize) -> Option<HermiteInterpolator<'a, N>>
-        ensures { λ r. ⌜ Cases r (length (now (rows .entry)) < 1 + 2 * dim) (λ s. (1 + 2 * dim ≤ length (now (rows .entry))) × (s .count ≡ 0) × (s .dim ≡ dim) × (s .rows .now ≡ now (rows .entry)) × (s .rows .name ≡ name (rows .entry))) ⌝ }
+    // No knots yet, of states with `dim` entries.
+    pub fn new(rows: &'a mut [N], dim: usize) -> HermiteInterpolator<'a, N>
+        ensures count { λ r. ⌜ r .count ≡ 0 ⌝ }
+        ensures dim { λ r. ⌜ r .dim ≡ dim ⌝ }
+        ensures rows { λ r. ⌜ now (r .rows) ≡ now (rows .entry) ⌝ }
+        ensures lender { λ r. ⌜ name (r .rows) ≡ name (rows .entry) ⌝ }
     {
-        let len = rows.len();
-        if len == 0 || dim > (len - 1) / 2 {
-            return None;
-        }
-        Some(HermiteInterpolator {
+        HermiteInterpolator {
             rows,
             dim,
-            width: 1 + 2 * dim,
             count: 0,
-        })
+        }
     }
 
     // One knot more, after the others; false, and all stays, where it has another size or there is no room for it.
@@ -67,9 +63,13 @@ impl<'a, N: Scalar> HermiteInterpolator<'a, N> {
         if f.len() != self.dim {
             return false;
         }
-        let w = self.width;
+        let len = self.rows.len();
+        if len == 0 || self.dim > (len - 1) / 2 {
+            return false;
+        }
+        let w = 1 + 2 * self.dim;
         let a = self.count * w;
-        if self.rows.len() - a < w {
+        if len - a < w {
             return false;
         }
         let rows = std::mem::replace(&mut self.rows, &mut []);
@@ -85,8 +85,9 @@ impl<'a, N: Scalar> HermiteInterpolator<'a, N> {
         ensures row { λ r. ⌜ now r ≡ rowAt (N·Scalar .kind .ops) (1 + 2 * now (self .entry) .dim) (now (now (self .entry) .rows)) k ⌝ }
         ensures len { λ r. ⌜ length (now r) ≡ 1 + 2 * now (self .entry) .dim ⌝ }
     {
-        let a = k * self.width;
-        &self.rows[a..a + self.width]
+        let w = 1 + 2 * self.dim;
+        let a = k * w;
+        &self.rows[a..a + w]
     }
 
     fn time(&self, k: usize) -> N

@@ -35,7 +35,11 @@ fn show(
         return Ok(());
     };
     match state_at(heap, points, segment, t)? {
-        Some([z, v]) => writeln!(out, "{n} {segment} {z} {v}")?,
+        Some(state) => {
+            let z = state[0];
+            let v = state[1];
+            writeln!(out, "{n} {segment} {z} {v}")?
+        }
         None => writeln!(out, "{n} {segment} - -")?,
     }
     Ok(())

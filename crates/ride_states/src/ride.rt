@@ -1,5 +1,6 @@
 // A ride of the contact model in f64: its checkpoints, the ends of its segments, and the state at an instant.
 use checkpointing::interpolator::HermiteInterpolator;
+use scalar::Scalar;
 use scalar::times::Finite64;
 use scalar::times::binary64::F64Scalar;
 use scalar::whole::integer;
@@ -17,14 +18,14 @@ pub struct Checkpoint {
 
 // Whole numbers in the table are far from the ends of f64, so each is a time.
 pub fn time_of(n: i64) -> Result<Finite64, AnyError> {
-    match Finite64::new(integer(n)) {
+    match integer::<f64>(n).time() {
         Some(t) => Ok(t),
         None => Err("a time is not finite".into()),
     }
 }
 
 // A row of the first table: segment, t, h, z, v, dz, dv.
-fn checkpoint(row: &[i64]) -> Result<Checkpoint, AnyError> {
+fn parse_row(row: &[i64]) -> Result<Checkpoint, AnyError> {
     let [segment, t, _, z, v, dz, dv] = *row else {
         return Err("a checkpoint has seven numbers".into());
     };
@@ -42,7 +43,7 @@ fn checkpoint(row: &[i64]) -> Result<Checkpoint, AnyError> {
 pub fn checkpoints(heap: Global, numbers: &[i64]) -> Result<Vec<Checkpoint>, AnyError> {
     let mut out = Vec::new(heap);
     for row in numbers.chunks(7) {
-        out.push(checkpoint(row)?)?;
+        out.push(parse_row(row)?)?;
     }
     Ok(out)
 }
@@ -73,9 +74,7 @@ pub fn state_at(
 ) -> Result<Option<[f64; 2]>, AnyError> {
     let mut rows = vec![in heap; 0.0; points.len().saturating_mul(5)]?;
     let mut out = [0.0; 2];
-    let Some(mut knots) = HermiteInterpolator::new(rows.as_mut_slice(), 2) else {
-        return Ok(None);
-    };
+    let mut knots = HermiteInterpolator::new(rows.as_mut_slice(), 2);
     for p in points {
         if p.segment == segment {
             let _ = knots.push(p.t, &p.state, &p.slope);

@@ -34,7 +34,7 @@ fn push<N: Scalar + Drop>(
 fn looked<N: Scalar + Drop>(heap: Global, t: u64) -> Result<Option<N>, Fail> {
     let mut rows = filled::<N>(heap, 0, 6)?;
     let mut out = filled::<N>(heap, 0, 1)?;
-    let mut list = HermiteInterpolator::new(rows.as_mut_slice(), 1).ok_or("no room")?;
+    let mut list = HermiteInterpolator::new(rows.as_mut_slice(), 1);
     check(push(heap, &mut list, 0, 1, 0)?)?;
     check(push(heap, &mut list, 2, 5, 4)?)?;
     let at = N::whole(t).time().ok_or("no time")?;

@@ -1,6 +1,6 @@
-use mathlib.Core.Path.{_≡_, refl, ap, sym, subst, _∙_}
-use mathlib.Core.List.{List, [], _∷_, _++_}
-use Prim.Native.Nat.{ℕ, _+_, _*_, _-_, _≤_}
+use mathlib.Core.Path.{_≡_, refl, ap, _∙_}
+use mathlib.Core.List.{_∷_, _++_}
+use Prim.Native.Nat.{_+_, _*_, _-_, _≤_}
 use native.Mathlib.Omega.{arith}
 use lib.ListN.{length, length-append}
 use lib.Seq.{paste}
@@ -16,17 +16,15 @@ returns g c =
     let u = c .args .u .now in
     let f = c .args .f .now in
     let t = g .N·Scalar .kind .value (c .args .t) in
-    let w = s .width in
+    let w = 1 + 2 * s .dim in
     let old : c .replace-rows .result .now ≡ s .rows .now = ap (λ r. r .now) (c .replace-rows .ensures .value) in
-    let Room : ℕ → Type 0 = λ n. s .count * n + n ≤ length (s .rows .now) in
-    let room : Room (1 + 2 * s .dim) = subst Room (s .wide) (omega (arith, ap length old)) in
+    let room : s .count * w + w ≤ length (s .rows .now) = omega arith in
     let row : c .fill-row .last .row ≡ t ∷ (u ++ f) = c .fill-row .ensures ∙ ap (λ x. x ∷ (u ++ f)) (c .value .ensures) in
     let rows =
     putMid-paste (s .count * w) (s .count * w + w - s .count * w) (c .replace-rows .result .now) (c .fill-row .last .row) (t ∷ (u ++ f)) w row (omega arith) (omega (arith, length-append u f))
-    ∙ ap (λ xs. paste xs (s .count * w) (t ∷ (u ++ f)) w) old
-    ∙ ap (λ n. paste (s .rows .now) (s .count * n) (t ∷ (u ++ f)) n) (s .wide) in
+    ∙ ap (λ xs. paste xs (s .count * w) (t ∷ (u ++ f)) w) old in
     record {
-      made = passes (length u) (length f) (s .dim) (s .count) (1 + 2 * s .dim) (length (s .rows .now)) (omega arith) (omega arith) room;
+      made = passes (length u) (length f) (s .dim) (s .count) w (length (s .rows .now)) (omega arith) (omega arith) room;
       rows = rows;
       knots = ap (λ xs. knots o (s .dim) xs (s .count + 1)) rows ∙ knots-more o (s .dim) (s .rows .now) (s .count) t u f (omega arith) (omega arith) room;
       count = refl;

@@ -1,0 +1,12 @@
+use mathlib.Core.Path.{_≡_}
+use Prim.Native.Nat.{_-_}
+use lib.ListN.{drop, length}
+use Rattle.tables.specs.Rides.{endOf}
+use Rattle.tables.specs.Text.{linesOf}
+use Rattle.tables.proofs.settings.at_end.Given as given
+
+abbrev pub Inv-loop-place : given.InvT-loop-place
+Inv-loop-place l = endOf (l .entry .place .number) (linesOf (drop (l .entry .place .at) (l .input))) ≡ endOf (l .place .number) (linesOf (drop (l .place .at) (l .input)))
+
+abbrev pub μ-loop-place : given.MeasureT-loop-place
+μ-loop-place l = length (l .input) - l .place .at
