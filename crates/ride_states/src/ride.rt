@@ -17,7 +17,7 @@ pub struct Checkpoint {
 }
 
 // Whole numbers in the table are far from the ends of f64, so each is a time.
-pub fn time_of(n: i64) -> Result<Finite64, AnyError> {
+pub(crate) fn time_of(n: i64) -> Result<Finite64, AnyError> {
     match integer::<f64>(n).time() {
         Some(t) => Ok(t),
         None => Err("a time is not finite".into()),
@@ -40,7 +40,7 @@ fn parse_row(row: &[i64]) -> Result<Checkpoint, AnyError> {
     })
 }
 
-pub fn checkpoints(heap: Global, numbers: &[i64]) -> Result<Vec<Checkpoint>, AnyError> {
+pub(crate) fn checkpoints(heap: Global, numbers: &[i64]) -> Result<Vec<Checkpoint>, AnyError> {
     let mut out = Vec::new(heap);
     for row in numbers.chunks(7) {
         out.push(parse_row(row)?)?;
@@ -49,7 +49,7 @@ pub fn checkpoints(heap: Global, numbers: &[i64]) -> Result<Vec<Checkpoint>, Any
 }
 
 // The first and the last time of each segment.
-pub fn ends(heap: Global, points: &[Checkpoint]) -> Result<Vec<(Finite64, Finite64)>, AnyError> {
+pub(crate) fn ends(heap: Global, points: &[Checkpoint]) -> Result<Vec<(Finite64, Finite64)>, AnyError> {
     let mut out = Vec::new(heap);
     let mut first: Option<Finite64> = None;
     for k in 0..points.len() {
@@ -66,7 +66,7 @@ pub fn ends(heap: Global, points: &[Checkpoint]) -> Result<Vec<(Finite64, Finite
 }
 
 // The state at t between the checkpoints of a segment, which are taken as knots.
-pub fn state_at(
+pub(crate) fn state_at(
     heap: Global,
     points: &[Checkpoint],
     segment: usize,

@@ -25,7 +25,7 @@ fn line_end(input: &[u8], from: usize) -> usize
 }
 
 // The line at a place that is not the text's end.
-pub fn next_line<'a>(input: &'a [u8], place: Place) -> Taken<'a>
+pub(crate) fn next_line<'a>(input: &'a [u8], place: Place) -> Taken<'a>
     requires { ⌜ place .at < length (now input) ⌝ }
     ensures { λ r. ⌜ NextLine (now (input .entry)) (place .at) (place .number) (now (r .line)) (r .next .at) (r .next .number) ⌝ }
 {

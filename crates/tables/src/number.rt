@@ -33,7 +33,7 @@ fn size(digits: &[u8], limit: u64) -> Result<u64, Wrong>
 }
 
 // The whole number that a word writes: digits, after a minus sign or none.
-pub fn whole(word: &[u8], limit: u64) -> Result<i64, Wrong>
+pub(crate) fn whole(word: &[u8], limit: u64) -> Result<i64, Wrong>
     requires { ⌜ limit < 2 ^ 63 ⌝ }
     ensures { λ r. ⌜ r ≡ wholeOf limit (now (word .entry)) ⌝ }
 {

@@ -9,7 +9,7 @@ use crate::faults::Wrong;
 
 // Whether there are checkpoints, and their segments are 0 in the first row and in each later one the same as in the row
 // before or one more. `numbers` has seven in a row, and the first row is the line `first`.
-pub fn ordered(numbers: &[i64], first: usize) -> Result<(), Fault>
+pub(crate) fn ordered(numbers: &[i64], first: usize) -> Result<(), Fault>
     requires rows { ⌜ ((k : ℕ) × (length (now numbers) ≡ 7 * k) × (first + k < 2 ^ 64)) ⌝ }
     requires below { ⌜ 1 ≤ first ⌝ }
     ensures { λ r. ⌜ Tells (orderOf first (now (numbers .entry))) r ⌝ }

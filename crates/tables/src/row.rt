@@ -14,7 +14,7 @@ use crate::words::next_word;
 
 // Reads the line, which has `width` numbers, onto `out`. The words are read from left to right, so a bad word within the
 // width is told before that there are too few or too many.
-pub fn row(
+pub(crate) fn row(
     out: &mut Vec<i64>,
     line: &[u8],
     number: usize,

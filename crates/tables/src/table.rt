@@ -17,7 +17,7 @@ use crate::words::same_words;
 use std::alloc::Global;
 
 // The names of a table's columns, in one line.
-pub fn names(part: Part) -> &'static str
+pub(crate) fn names(part: Part) -> &'static str
     ensures { λ r. ⌜ now r ≡ namesOf part ⌝ }
 {
     match part {
@@ -28,7 +28,7 @@ pub fn names(part: Part) -> &'static str
 }
 
 // Finds the table's line of names, before which only blank lines may stand; the place after it.
-pub fn header(input: &[u8], from: Place, part: Part) -> Result<Place, Fault>
+pub(crate) fn header(input: &[u8], from: Place, part: Part) -> Result<Place, Fault>
     ensures { λ r. ⌜ Tells (headOf part (from .number) (linesOf (drop (from .at) (now (input .entry))))) (mapOk (leftOf (now (input .entry))) r) ⌝ }
 {
     let expected = names(part).as_bytes();
@@ -54,7 +54,7 @@ pub struct Rows {
 }
 
 // Reads rows of `width` numbers up to a blank line or the end of the text.
-pub fn read_rows(
+pub(crate) fn read_rows(
     heap: Global,
     input: &[u8],
     from: Place,

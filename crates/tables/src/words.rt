@@ -12,7 +12,7 @@ pub struct Word {
 }
 
 // The next word of the line at or after `from`.
-pub fn next_word(line: &[u8], from: usize) -> Word
+pub(crate) fn next_word(line: &[u8], from: usize) -> Word
     ensures { λ r. ⌜ NextWord (now (line .entry)) from (r .start) (r .end) ⌝ }
 {
     for start in from..line.len() {
@@ -28,7 +28,7 @@ pub fn next_word(line: &[u8], from: usize) -> Word
 }
 
 // Whether the line has no word.
-pub fn is_blank(line: &[u8]) -> bool
+pub(crate) fn is_blank(line: &[u8]) -> bool
     ensures { λ r. ⌜ r ≡ isBlank (now (line .entry)) ⌝ }
 {
     let word = next_word(line, 0);
@@ -36,7 +36,7 @@ pub fn is_blank(line: &[u8]) -> bool
 }
 
 // Whether two lines have the same words.
-pub fn same_words(a: &[u8], b: &[u8]) -> bool
+pub(crate) fn same_words(a: &[u8], b: &[u8]) -> bool
     ensures { λ r. ⌜ r ≡ sameWords (wordsOf (now (a .entry))) (wordsOf (now (b .entry))) ⌝ }
 {
     let mut i = 0;
