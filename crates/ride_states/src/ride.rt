@@ -49,7 +49,10 @@ pub(crate) fn checkpoints(heap: Global, numbers: &[i64]) -> Result<Vec<Checkpoin
 }
 
 // The first and the last time of each segment.
-pub(crate) fn ends(heap: Global, points: &[Checkpoint]) -> Result<Vec<(Finite64, Finite64)>, AnyError> {
+pub(crate) fn ends(
+    heap: Global,
+    points: &[Checkpoint],
+) -> Result<Vec<(Finite64, Finite64)>, AnyError> {
     let mut out = Vec::new(heap);
     let mut first: Option<Finite64> = None;
     for k in 0..points.len() {

@@ -16,7 +16,12 @@ use crate::table::read_rows;
 use std::alloc::Global;
 
 // Reads the table of checkpoints; their order is looked at once all its rows are read.
-pub(crate) fn checkpoints(heap: Global, input: &[u8], from: Place, limit: u64) -> Result<Rows, Fault>
+pub(crate) fn checkpoints(
+    heap: Global,
+    input: &[u8],
+    from: Place,
+    limit: u64,
+) -> Result<Rows, Fault>
     requires { ⌜ limit < 2 ^ 63 ⌝ }
     ensures { λ r. ⌜ Tells (checkpointsOf limit (from .number) (linesOf (drop (from .at) (now (input .entry))))) (mapOk (readOf (now (input .entry))) r) ⌝ }
 {

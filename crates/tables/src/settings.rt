@@ -51,7 +51,12 @@ fn last_row(heap: Global, input: &[u8], from: Place, limit: u64) -> Result<Vec<i
 }
 
 // Reads the table of settings.
-pub(crate) fn settings(heap: Global, input: &[u8], from: Place, limit: u64) -> Result<Vec<i64>, Fault>
+pub(crate) fn settings(
+    heap: Global,
+    input: &[u8],
+    from: Place,
+    limit: u64,
+) -> Result<Vec<i64>, Fault>
     requires { ⌜ limit < 2 ^ 63 ⌝ }
     ensures { λ r. ⌜ Tells (settingsOf limit (from .number) (linesOf (drop (from .at) (now (input .entry))))) (mapOk vec-items r) ⌝ }
 {
