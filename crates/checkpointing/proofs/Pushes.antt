@@ -1,12 +1,12 @@
 -- One knot more, in the row after the others.
 use mathlib.Core.Path.{_≡_, refl, sym, ap, _∙_}
-use mathlib.Core.Bool.{Bool, true, false, _&&_}
-use mathlib.Core.List.{List, [], _∷_, _++_, map}
+use mathlib.Core.Bool.{true, _&&_}
+use mathlib.Core.List.{[], List, _∷_, _++_, map}
 use Prim.Native.Nat.{ℕ, zero, suc, _+_, _*_, _-_, _<_, _≤_}
-use native.Mathlib.Nat.{mul-le-mul-right, add-mul}
+use native.Mathlib.Nat.{add-mul}
 use native.Mathlib.Omega.{arith}
 use lib.Dec.{eqb, leb}
-use lib.ListN.{length, getD, take, drop}
+use lib.ListN.{length, take, drop}
 use lib.Seq.{paste}
 use Rattle.std.specs.Iters.{counting}
 use Rattle.std.proofs.shelf.Lists.{take-at, drop-at, take-all, take-append-le, drop-append-le, take-take, drop-take, length-take-le, length-append, length-drop, append-assoc}
@@ -14,7 +14,7 @@ use Rattle.std.proofs.shelf.Counted.{map-counting-more}
 use Rattle.std.proofs.shelf.Tests.{eq-eqb, le-leb}
 use Rattle.scalar.specs.Ops.{Ops}
 use Rattle.scalar.proofs.Rows.{row-within}
-use Rattle.checkpointing.specs.Knots.{Knot, knotOf, rowAt, knotAt, knots}
+use Rattle.checkpointing.specs.Knots.{knotOf, rowAt, knotAt, knots}
 
 map-alike : {X : Type 0} (f g : ℕ → X) (a n : ℕ) → ((i : ℕ) → i < a + n → f i ≡ g i) → map f (counting a n) ≡ map g (counting a n)
 map-alike f g a zero h = refl

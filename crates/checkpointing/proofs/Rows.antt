@@ -1,9 +1,9 @@
 -- Knots as rows of one width.
-use mathlib.Core.Path.{_≡_, refl, sym, ap, _∙_}
-use mathlib.Core.List.{List, [], _∷_, _++_}
+use mathlib.Core.Path.{_≡_, sym, ap, _∙_}
+use mathlib.Core.List.{[], List, _∷_, _++_}
 use Prim.Native.Nat.{ℕ, suc, _+_, _*_, _-_, _<_, _≤_}
 use native.Mathlib.Omega.{arith}
-use lib.ListN.{length, getD, take, drop, set}
+use lib.ListN.{length, take, drop, set}
 use borrow.Rule.Slice.PartMut.{putMid}
 use borrow.Author.Needs.{needs}
 use Rattle.std.proofs.shelf.Parts.{overwrites}
@@ -11,7 +11,7 @@ use Rattle.std.proofs.shelf.Lists.{getD-take, getD-drop, length-take-le, length
 use Rattle.scalar.specs.Ops.{Ops}
 use Rattle.scalar.specs.Vectors.{at}
 use Rattle.std.proofs.shelf.Counted.{fill-by-all}
-use Rattle.checkpointing.specs.Knots.{Knot, knotOf, rowAt, hermite, between}
+use Rattle.checkpointing.specs.Knots.{knotOf, rowAt, hermite, between}
 
 module _ {N : Type 0} (o : Ops N) where
   pub row-is : (rows : List N) (k w : ℕ) → take ((k * w + w) - k * w) (drop (k * w) rows) ≡ rowAt o w rows k

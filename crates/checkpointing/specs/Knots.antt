@@ -1,6 +1,6 @@
--- Cubic Hermite interpolation, after Hairer, Nørsett and Wanner (Solving Ordinary Differential Equations I, II.6), each operation in its place.
-use mathlib.Core.Bool.{Bool, cond, _||_}
-use mathlib.Core.List.{List, [], map}
+-- Cubic Hermite interpolation, after Hairer, Nørsett and Wanner, each operation in its place.
+use mathlib.Core.Bool.{_||_, cond}
+use mathlib.Core.List.{[], List, map}
 use Prim.Native.Nat.{ℕ, zero, suc, _+_, _*_, min}
 use lib.Dec.{eqb}
 use lib.ListN.{length, getD, take, drop}

@@ -11,6 +11,7 @@ use ride::time_of;
 use scalar::times::Finite64;
 use scalar::times::binary64::F64Scalar;
 use std::alloc::Global;
+use std::env;
 use std::error::AnyError;
 use std::io::BufWriter;
 use std::io::Read;
@@ -45,8 +46,17 @@ fn show(
     Ok(())
 }
 
+// The program takes no argument.
+fn refuse_arguments(rt: &LibcRuntime) -> Result<(), AnyError> {
+    for arg in env::args(rt)?.skip(1) {
+        return Err(format!(rt.alloc(), "unknown argument {arg}")?.into());
+    }
+    Ok(())
+}
+
 fn run(rt: &LibcRuntime) -> Result<(), AnyError> {
     let heap = rt.alloc();
+    refuse_arguments(rt)?;
     let mut bytes = Vec::new(heap);
     rt.stdin().read_to_end(&mut bytes)?;
     let ride = match tables::read(heap, bytes.as_slice(), LARGEST) {

@@ -7,7 +7,6 @@ use lib.Dec.{T, T-prop}
 use lib.Ieee.{Float, Format, le}
 use borrow.Author.Tests.{both-ways}
 use Rattle.std.specs.Floats as Floats
-use Rattle.std.specs.declared.option.Option.{Option}
 use Rattle.std.specs.declared.option.Option.the-variants.{Some, None}
 use Rattle.scalar.specs.Kind.{Lawful}
 use Rattle.scalar.specs.Floats.{timed, floatOps, floatKind}

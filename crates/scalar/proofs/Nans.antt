@@ -1,6 +1,5 @@
 -- Which patterns are a NaN's, in both formats.
 use mathlib.Core.Path.{_≡_, refl, sym, ap, subst, _∙_}
-use mathlib.Core.Bool.{Bool, true, false}
 use lib.Dec.{T}
 use lib.Ieee.{Float, Format, binary32, binary64, nan, inf, fin, isNan, nanBits, ofBits, toBits}
 use lib.Ieee.Bits.{nanBits-is}

@@ -1,12 +1,12 @@
 -- A loop that goes over two lists place by place.
 use mathlib.Core.Path.{_≡_, refl, sym, ap, _∙_}
 use mathlib.Core.Logic.{_⊎_, inl, inr}
-use mathlib.Core.List.{List, [], _∷_, _++_, append-assoc}
+use mathlib.Core.List.{[], List, _∷_, _++_, append-assoc}
 use Prim.Native.Nat.{ℕ, suc, _+_, _<_, _≤_, min}
 use native.Mathlib.Omega.{arith}
 use lib.ListN.{length, getD, take, drop, set}
 use lib.Seq.{drop-set-lt}
-use Rattle.std.proofs.shelf.Lists.{append-nil, take-append-drop, take-more-set, drop-more, drop-all, length-set}
+use Rattle.std.proofs.shelf.Lists.{take-append-drop, take-more-set, drop-more, drop-all}
 use Rattle.std.proofs.shelf.Tests.{cases-lt}
 use Rattle.scalar.specs.Vectors.{placewise}
 

@@ -1,10 +1,10 @@
 -- A matrix that lies row by row: where a row begins, and what is read there.
-use mathlib.Core.Path.{_≡_, ap, sym, _∙_}
+use mathlib.Core.Path.{_≡_, ap, _∙_}
 use mathlib.Core.List.{List}
 use Prim.Native.Nat.{ℕ, _+_, _*_, _-_, _<_, _≤_, min}
 use native.Mathlib.Nat.{mul-le-mul-right}
 use native.Mathlib.Omega.{arith}
-use lib.ListN.{length, getD, take, drop}
+use lib.ListN.{length, take, drop}
 use Rattle.std.proofs.shelf.Lists.{getD-take, getD-drop, length-take-le, length-drop}
 use Rattle.scalar.specs.Ops.{Ops}
 use Rattle.scalar.specs.Vectors.{at, sumTo, dotOf, rowByRow}

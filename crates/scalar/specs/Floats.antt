@@ -1,7 +1,6 @@
 -- The two binary formats as number kinds: they round to nearest, and their finite values are times.
 use mathlib.Core.Path.{_≡_, refl, sym, subst}
 use mathlib.Core.Bool.{Bool, true, false}
-use Prim.Native.Nat.{ℕ}
 use lib.Dec.{T}
 use lib.IntN.{pos, negsuc}
 use lib.Ieee as Ieee

@@ -1,5 +1,5 @@
 -- A number kind: its operations, and which of its values are times.
-use mathlib.Core.Bool.{Bool, _||_}
+use mathlib.Core.Bool.{_||_, Bool}
 use mathlib.Core.Path.{_≡_}
 use Prim.Native.Nat.{suc}
 use lib.IntN.{ℤ, pos, negsuc}

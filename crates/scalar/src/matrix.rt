@@ -60,17 +60,25 @@ fn column_sum<N: Scalar>(m: &[N], w: usize, j: usize, v: &[N]) -> N
     sum
 }
 
+// The sign is taken of the whole sum, so that a sum of 0 gives -0.
+fn minus_column<N: Scalar>(m: &[N], w: usize, j: usize, v: &[N]) -> N
+    requires { ⌜ length (now m) ≡ length (now v) * w ⌝ ∗ ⌜ j < w ⌝ }
+    ensures { λ r. ⌜ r ≡ N·Scalar .kind .ops .negated (sumTo (N·Scalar .kind .ops) (λ i. N·Scalar .kind .ops .times (rowByRow (N·Scalar .kind .ops) (now (m .entry)) w i j) (at (N·Scalar .kind .ops) (now (v .entry)) i)) (length (now (v .entry)))) ⌝ }
+{
+    -column_sum(m, w, j, v)
+}
+
 fn fill_minus_transposed<N: Scalar>(m: &[N], v: &[N], out: &mut [N])
     requires { ⌜ length (now m) ≡ length (now v) * length (now out) ⌝ }
     ensures { λ _. ⌜ now (out .exit) ≡ minusTransposed (N·Scalar .kind .ops) (rowByRow (N·Scalar .kind .ops) (now (m .entry)) (length (now (out .entry)))) (now (v .entry)) (length (now (out .entry))) ⌝ }
 {
     let w = out.len();
     for j in 0..w {
-        out[j] = -column_sum(m, w, j, v);
+        out[j] = minus_column(m, w, j, v);
     }
 }
 
-// out := -(mᵀ × v): the sign is taken of the whole sum.
+// out := -(mᵀ × v)
 pub fn minus_transposed_product<N: Scalar>(m: &[N], v: &[N], out: &mut [N]) -> Result<(), SizeFault>
     ensures answer { λ r. ⌜ r ≡ cond (fills (now (m .entry)) (length (now (v .entry))) (length (now (out .entry)))) (Ok tt) (Err Matrix) ⌝ }
     ensures out { λ _. ⌜ now (out .exit) ≡ cond (fills (now (m .entry)) (length (now (v .entry))) (length (now (out .entry)))) (minusTransposed (N·Scalar .kind .ops) (rowByRow (N·Scalar .kind .ops) (now (m .entry)) (length (now (out .entry)))) (now (v .entry)) (length (now (out .entry)))) (now (out .entry)) ⌝ }

@@ -1,7 +1,6 @@
 // Sums and additions on slices. Where two operands differ in length the places count that both have.
 use crate::Scalar;
 ghost use mathlib.Core.Path.{_≡_};
-ghost use lib.ListN.{length};
 ghost use Rattle.scalar.specs.Vectors.{placewise, sumOf, dotOf, scaling};
 
 // Starts at zero and adds by ascending index.

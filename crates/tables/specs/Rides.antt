@@ -2,8 +2,8 @@
 -- whole numbers under it. A table's rows end at a blank line or the end of the text, and before the names of a table any number of blank lines may stand. The
 -- text is read from top to bottom, and what is found first is told, with its line.
 use mathlib.Core.Path.{_≡_}
-use mathlib.Core.Bool.{Bool, false, cond, _||_}
-use mathlib.Core.List.{List, [], _∷_}
+use mathlib.Core.Bool.{_||_, Bool, false, cond}
+use mathlib.Core.List.{[], List, _∷_}
 use mathlib.Core.Logic.{_⊎_}
 use Prim.Native.Nat.{ℕ, zero, suc, min, _+_, _-_, _*_, _^_, _≤_, _<_}
 use lib.Dec.{eqb}

@@ -1,6 +1,6 @@
 -- What one step of the reader finds: a word, or a line.
 use mathlib.Core.Path.{_≡_}
-use mathlib.Core.List.{List, [], _∷_}
+use mathlib.Core.List.{[], List, _∷_}
 use Prim.Native.Nat.{ℕ, _+_, _-_, _≤_, _<_}
 use lib.ListN.{length, take, drop}
 use Rattle.tables.specs.Text.{linesOf, wordsOf}

@@ -1,7 +1,7 @@
 -- The lines of a text and the words of a line. Only the bytes 10 and 32 separate: a tab or a carriage return is a part of its word. Several blanks in a row
 -- separate like one, and blanks at the ends of a line do not count.
 use mathlib.Core.Bool.{Bool, true, false, cond, _&&_}
-use mathlib.Core.List.{List, [], _∷_}
+use mathlib.Core.List.{[], List, _∷_}
 use Prim.Native.Nat.{ℕ}
 use Rattle.std.specs.shelf.Text.{sameBytes}
 use Rattle.tables.specs.Breaks.{isEnd, isBreak}

@@ -1,13 +1,12 @@
-use mathlib.Core.Path.{_≡_, _∙_, ap, sym}
-use Prim.Native.Nat.{ℕ, _+_, _<_}
+use mathlib.Core.Path.{_≡_, _∙_}
+use Prim.Native.Nat.{_+_, _<_}
 use native.Mathlib.Omega.{arith}
 use lib.ListN.{length}
 use Rattle.std.proofs.shelf.Lists.{getD-read}
 use Rattle.std.proofs.shelf.Edits.{fill-by-more}
-use Rattle.std.proofs.shelf.Counted.{fill-by-all}
 use Rattle.scalar.specs.Vectors.{at}
-use Rattle.checkpointing.specs.Knots.{cubic, hermite, between, knotOf}
-use Rattle.checkpointing.proofs.Rows.{state-at, slope-at, state-length, between-is}
+use Rattle.checkpointing.specs.Knots.{cubic}
+use Rattle.checkpointing.proofs.Rows.{between-is}
 use Rattle.checkpointing.proofs.hermite.fill_between.Needs as need
 
 pub loop-i-again : need.loop-i-again

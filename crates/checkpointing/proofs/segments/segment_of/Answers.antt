@@ -1,10 +1,9 @@
-use mathlib.Core.Path.{_≡_, ap, sym, _∙_}
+use mathlib.Core.Path.{sym, _∙_}
 use Prim.Native.Nat.{_-_, _<_}
 use native.Mathlib.Omega.{arith}
-use lib.ListN.{length, getD}
+use lib.ListN.{length}
 use Rattle.std.proofs.shelf.Lists.{getD-default}
-use Rattle.checkpointing.specs.Segments.{belongs}
-use Rattle.checkpointing.proofs.Belonging.{found, passed, here}
+use Rattle.checkpointing.proofs.Belonging.{found, passed}
 use Rattle.checkpointing.proofs.segments.segment_of.Needs as need
 
 pub returns-then-belongs : need.returns-then-belongs

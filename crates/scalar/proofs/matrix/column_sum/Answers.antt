@@ -1,5 +1,5 @@
 use mathlib.Core.Path.{_≡_}
-use Prim.Native.Nat.{_+_, _*_, _<_, _≤_}
+use Prim.Native.Nat.{_+_, _*_}
 use native.Mathlib.Omega.{arith}
 use lib.ListN.{length}
 use borrow.Author.Needs.{needs}
@@ -31,7 +31,7 @@ loop-i-again g c =
     let h = row-within i (length v) (c .args .w) (omega arith) in
     let a : c .index-m-k .result ≡ at o m k = getD-read m k _ (omega arith) (c .index-m-k .is) _ in
     let x : c .index-v-i .result ≡ at o v i = getD-read v i _ (omega arith) (c .index-v-i .is) _ in
-    let p = g .N·Scalar·met .muls (c .index-m-k .result) (c .index-v-i .result) (c .mul .result) (c .mul .ensures) in
-    let s = g .N·Scalar·met .adds (c .loop-i .sum) (c .mul .result) (c .add-sum .result) (c .add-sum .ensures) in
+    let p = g .N·Scalar·met .muls _ _ (c .mul .result) (c .mul .ensures) in
+    let s = g .N·Scalar·met .adds _ _ (c .add-sum .result) (c .add-sum .ensures) in
     let e = sum-more o (λ n. o .times (rowByRow o m (c .args .w) n (c .args .j)) (at o v n)) i in
     cc

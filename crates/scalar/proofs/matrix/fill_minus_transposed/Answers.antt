@@ -1,5 +1,4 @@
-use mathlib.Core.Path.{_≡_, _∙_, ap}
-use Prim.Native.Nat.{ℕ, _<_}
+use Prim.Native.Nat.{_<_}
 use native.Mathlib.Omega.{arith}
 use lib.ListN.{length}
 use Rattle.std.proofs.shelf.Edits.{fill-by-more}
@@ -14,9 +13,7 @@ loop-j-again g c k h =
     let v = c .args .v .now in
     let w = length (c .args .out .now) in
     let in-out : c .loop-j .j < length (c .loop-j .out) = omega arith in
-    let is : c .neg .result ≡ o .negated (sumTo o (λ i. o .times (rowByRow o m w i (c .loop-j .j)) (at o v i)) (length v)) =
-    g .N·Scalar·met .negs (c .column-sum .result) (c .neg .result) (c .neg .ensures) ∙ ap (o .negated) (c .column-sum .ensures) in
-    simp is (fill-by-more (λ j. o .negated (sumTo o (λ i. o .times (rowByRow o m w i j) (at o v i)) (length v))) (c .loop-j .out) (c .loop-j .j) (o .whole 0) in-out (c .loop-j .inv) k h)
+    simp (c .minus-column .ensures) (fill-by-more (λ j. o .negated (sumTo o (λ i. o .times (rowByRow o m w i j) (at o v i)) (length v))) (c .loop-j .out) (c .loop-j .j) (o .whole 0) in-out (c .loop-j .inv) k h)
 
 pub returns : need.returns
 unfolding minusTransposed

@@ -1,7 +1,7 @@
 use mathlib.Core.Path.{_≡_, _∙_}
 use Prim.Native.Nat.{_<_}
 use native.Mathlib.Omega.{arith}
-use lib.ListN.{length, getD}
+use lib.ListN.{length}
 use Rattle.std.proofs.shelf.Lists.{getD-read}
 use Rattle.scalar.specs.Vectors.{at}
 use Rattle.scalar.proofs.Placewise.{placewise-more, placewise-all}
@@ -15,9 +15,9 @@ loop-i-again g c =
     let ys = c .loop-i .ys in
     let in-ys : i < length ys = omega arith in
     let in-xs : i < length xs = omega arith in
-    let y : c .index-ys-i .result ≡ at o ys i = getD-read ys i (c .index-ys-i .result) in-ys (c .index-ys-i .is) (o .whole 0) in
-    let x : c .index-xs-i .result ≡ at o xs i = getD-read xs i (c .index-xs-i .result) in-xs (c .index-xs-i .is) (o .whole 0) in
-    let s = g .N·Scalar·met .adds (c .index-ys-i .result) (c .index-xs-i .result) (c .add .result) (c .add .ensures) in
+    let y : c .index-ys-i .result ≡ at o ys i = getD-read ys i _ in-ys (c .index-ys-i .is) _ in
+    let x : c .index-xs-i .result ≡ at o xs i = getD-read xs i _ in-xs (c .index-xs-i .is) _ in
+    let s = g .N·Scalar·met .adds _ _ (c .add .result) (c .add .ensures) in
     let v : c .add .result ≡ o .plus (at o ys i) (at o xs i) = cc in
     placewise-more (o .plus) ys xs i (o .whole 0) _ in-ys in-xs v ∙ c .loop-i .inv
 

@@ -1,7 +1,7 @@
 use mathlib.Core.Path.{_≡_, _∙_}
 use Prim.Native.Nat.{_<_}
 use native.Mathlib.Omega.{arith}
-use lib.ListN.{length, getD}
+use lib.ListN.{length}
 use Rattle.std.proofs.shelf.Lists.{getD-read}
 use Rattle.scalar.specs.Vectors.{at, scaling}
 use Rattle.scalar.proofs.Placewise.{placewise-more, placewise-all}
@@ -15,10 +15,10 @@ loop-i-again g c =
     let ys = c .loop-i .ys in
     let in-ys : i < length ys = omega arith in
     let in-xs : i < length xs = omega arith in
-    let y : c .index-ys-i .result ≡ at o ys i = getD-read ys i (c .index-ys-i .result) in-ys (c .index-ys-i .is) (o .whole 0) in
-    let x : c .index-xs-i .result ≡ at o xs i = getD-read xs i (c .index-xs-i .result) in-xs (c .index-xs-i .is) (o .whole 0) in
-    let p = g .N·Scalar·met .muls (c .args .a) (c .index-xs-i .result) (c .mul .result) (c .mul .ensures) in
-    let s = g .N·Scalar·met .adds (c .index-ys-i .result) (c .mul .result) (c .add .result) (c .add .ensures) in
+    let y : c .index-ys-i .result ≡ at o ys i = getD-read ys i _ in-ys (c .index-ys-i .is) _ in
+    let x : c .index-xs-i .result ≡ at o xs i = getD-read xs i _ in-xs (c .index-xs-i .is) _ in
+    let p = g .N·Scalar·met .muls _ _ (c .mul .result) (c .mul .ensures) in
+    let s = g .N·Scalar·met .adds _ _ (c .add .result) (c .add .ensures) in
     let v : c .add .result ≡ scaling o (c .args .a) (at o ys i) (at o xs i) = cc in
     placewise-more (scaling o (c .args .a)) ys xs i (o .whole 0) _ in-ys in-xs v ∙ c .loop-i .inv
 

@@ -1,11 +1,10 @@
 use mathlib.Core.Path.{_≡_, _∙_, ap, sym}
-use mathlib.Core.Bool.{true, false, _||_}
-use Prim.Native.Nat.{_<_, _-_, _+_}
+use Prim.Native.Nat.{_-_, _+_}
 use native.Mathlib.Omega.{arith}
 use lib.ListN.{length, take, drop}
 use Rattle.std.specs.Options.{isSome, valueOr}
 use Rattle.std.specs.declared.option.Option.the-variants.{Some, None}
-use Rattle.checkpointing.specs.Knots.{Knot, knotAt, knotOf, between, answer, knots}
+use Rattle.checkpointing.specs.Knots.{knotAt, knotOf, between, answer, knots}
 use Rattle.checkpointing.proofs.LookUps.{asked-none, asked-outside, asked-first, asked-alone, asked-two, answer-is, answer-other}
 use Rattle.checkpointing.proofs.interpolator.HermiteInterpolator.interpolate.Needs as need
 

@@ -1,6 +1,6 @@
 use mathlib.Core.Path.{_≡_, _∙_, ap, sym}
-use mathlib.Core.Bool.{true, false}
-use Prim.Native.Nat.{_<_, _-_, _≤_, min}
+use mathlib.Core.Bool.{true}
+use Prim.Native.Nat.{_-_, min}
 use native.Mathlib.Omega.{arith}
 use Rattle.checkpointing.specs.Knots.{knotAt, lastNotAfter}
 use Rattle.checkpointing.proofs.LookUps.{passed, stopped, at-first}

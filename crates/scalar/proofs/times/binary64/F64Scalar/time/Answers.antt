@@ -1,4 +1,4 @@
-use mathlib.Core.Path.{refl, sym, _∙_}
+use mathlib.Core.Path.{refl, sym}
 use Rattle.std.specs.Floats as Floats
 use Rattle.scalar.proofs.FloatTimes.{some-is, none-is}
 use Rattle.scalar.proofs.times.binary64.F64Scalar.time.Needs as need

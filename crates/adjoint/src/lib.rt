@@ -1,0 +1,2 @@
+// What the pass does to adjoint states and gradients at an instant, at a touchdown and at the start.
+mod lanes;

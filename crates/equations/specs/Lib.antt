@@ -1,0 +1,4 @@
+pub mod Model
+pub mod Contact
+pub mod Creep
+pub mod Layers
