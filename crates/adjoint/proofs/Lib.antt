@@ -1,1 +1,2 @@
 pub mod Laned
+pub mod Rules
