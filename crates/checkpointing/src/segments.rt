@@ -3,7 +3,8 @@ use scalar::Scalar;
 use scalar::order::is_before;
 use scalar::order::is_equal;
 ghost use mathlib.Core.Path.{_≡_};
-ghost use Rattle.checkpointing.specs.Segments.{belongs as belongs-to, segmentOf};
+ghost use lib.ListN.{length};
+ghost use Rattle.checkpointing.specs.Segments.{belongs as belongs-to, segmentOf, Last};
 
 // An instant at a segment's end belongs to it only in the ride's last segment: elsewhere the next segment begins there.
 pub fn belongs<N: Scalar>(last: bool, first: N::Time, end: N::Time, t: N::Time) -> bool
@@ -14,7 +15,8 @@ pub fn belongs<N: Scalar>(last: bool, first: N::Time, end: N::Time, t: N::Time) 
 
 // The last segment that t belongs to, of segments that are given by their two ends.
 pub fn segment_of<N: Scalar>(ends: &[(N::Time, N::Time)], t: N::Time) -> Option<usize>
-    ensures { λ r. ⌜ r ≡ segmentOf (N·Scalar .kind) (now (ends .entry)) t ⌝ }
+    ensures answer { λ r. ⌜ r ≡ segmentOf (N·Scalar .kind) (now (ends .entry)) t ⌝ }
+    ensures last { λ r. ⌜ Last (N·Scalar .kind) (now (ends .entry)) t (length (now (ends .entry))) r ⌝ }
 {
     let mut n = ends.len();
     while n > 0 {
