@@ -1,4 +1,6 @@
 // What the pass does to adjoint states and gradients at an instant, at a touchdown and at the start.
+#![tactic(auto)]
+
 pub mod correct;
 mod crossing;
 pub mod faults;

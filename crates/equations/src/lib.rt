@@ -1,4 +1,6 @@
 // The equations that are differentiated.
+#![tactic(auto)]
+
 pub mod contact;
 pub mod creep;
 pub mod gather;

@@ -1,5 +1,7 @@
 // What a refusal tells: its number in the table of refusals, and values. Each layer has an enum of its own for what it
 // refuses, and that enum says here, once, which number and values belong to each of its cases.
+#![tactic(auto)]
+
 pub mod sizes;
 pub mod times;
 

@@ -1,5 +1,7 @@
 // Where was the pad at each sample? Reads a ride from standard input and prints, for each instant, the segment that it
 // belongs to and the forward state there, interpolated between the checkpoints around it.
+#![tactic(auto)]
+
 mod ride;
 
 use anyhow::anyhow;

@@ -1,5 +1,7 @@
 // Number kinds, and sums and products over them. A routine that is written once, for every kind, needs of its numbers
 // what `Scalar` offers, and nothing above this crate knows which kind it works on.
+#![tactic(auto)]
+
 pub mod matrix;
 pub mod nan;
 pub mod order;

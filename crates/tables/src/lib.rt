@@ -1,5 +1,7 @@
 // Reads the text of a ride: three tables of whole numbers, each a line of names and lines of numbers under it, with a
 // blank line between two tables.
+#![tactic(auto)]
+
 mod breaks;
 mod faults;
 mod lines;

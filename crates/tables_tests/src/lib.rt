@@ -1,4 +1,6 @@
 // Examples of what `tables` reads and refuses. They stand apart, since a crate with tests is proved twice.
+#![tactic(auto)]
+
 #[cfg(test)]
 mod tests {
     use std::alloc::{AllocError, Global};

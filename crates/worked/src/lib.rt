@@ -1,4 +1,6 @@
 // The worked examples: proved in the logic by one computed test of the whole table, and run in both float formats.
+#![tactic(auto)]
+
 ghost use Rattle.std.specs.Prelude.{◌≡◌, length};
 ghost use Rattle.worked.specs.Examples.{Worked, table};
 
