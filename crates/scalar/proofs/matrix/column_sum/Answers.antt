@@ -5,21 +5,21 @@ use Rattle.scalar.proofs.Sums.{sum_more}
 use Rattle.scalar.proofs.Rows.{row_within}
 use Rattle.scalar.proofs.matrix.column_sum.Goals as goal
 
-pub overflow-mul-k : goal.overflow-mul-k
-overflow-mul-k g c = let h = row_within c.loop-i.i (length c.args.v.now) c.args.w (omega arith) in search rules
+pub overflow_mul-k : goal.overflow_mul-k
+overflow_mul-k g c = let h = row_within c.loop-i.i (length c.args.v.now) c.args.w (omega arith) in search rules
 
-pub overflow-add-k : goal.overflow-add-k
-overflow-add-k g c = let h = row_within c.loop-i.i (length c.args.v.now) c.args.w (omega arith) in search rules
+pub overflow_add-k : goal.overflow_add-k
+overflow_add-k g c = let h = row_within c.loop-i.i (length c.args.v.now) c.args.w (omega arith) in search rules
 
-pub offset-bounds-m-k : goal.offset-bounds-m-k
-offset-bounds-m-k g c = let h = row_within c.loop-i.i (length c.args.v.now) c.args.w (omega arith) in search rules
+pub offset_bounds-m-k : goal.offset_bounds-m-k
+offset_bounds-m-k g c = let h = row_within c.loop-i.i (length c.args.v.now) c.args.w (omega arith) in search rules
 
 pub bounds-m-k : goal.bounds-m-k
 bounds-m-k g c = let h = row_within c.loop-i.i (length c.args.v.now) c.args.w (omega arith) in search rules
 
 pub loop-i-preserved : goal.loop-i-preserved
 loop-i-preserved g c =
-    let o = g.N-as-Scalar.kind.ops in
+    let o = g.N.Scalar.kind.ops in
     let m = c.args.m.now in
     let v = c.args.v.now in
     let i = c.loop-i.i in

@@ -4,4 +4,4 @@ use Rattle.scalar.proofs.Placewise.{partly}
 use Rattle.scalar.proofs.vectors.add_scaled.Given as goal
 
 abbrev pub invariant-loop-i : goal.invariant-loop-i
-invariant-loop-i g l = let f = scaling g.N-as-Scalar.kind.ops l.a in partly f l.ys l.xs l.i ≡ placewise f l.initial.ys l.xs
+invariant-loop-i g l = let f = scaling g.N.Scalar.kind.ops l.a in partly f l.ys l.xs l.i ≡ placewise f l.initial.ys l.xs

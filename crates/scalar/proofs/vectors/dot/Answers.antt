@@ -6,7 +6,7 @@ use Rattle.scalar.proofs.vectors.dot.Goals as goal
 
 pub loop-i-preserved : goal.loop-i-preserved
 loop-i-preserved g c =
-    let o = g.N-as-Scalar.kind.ops in
+    let o = g.N.Scalar.kind.ops in
     let xs = c.args.xs.now in
     let ys = c.args.ys.now in
     let i = c.loop-i.i in
@@ -20,7 +20,7 @@ loop-i-preserved g c =
 pub returns : goal.returns
 unfolding dot_of
 returns g c =
-    let o = g.N-as-Scalar.kind.ops in
+    let o = g.N.Scalar.kind.ops in
     let xs = c.args.xs.now in
     let ys = c.args.ys.now in
     let n : c.loop-i.i ≡ min (length xs) (length ys) = omega arith in

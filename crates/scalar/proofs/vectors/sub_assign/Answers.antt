@@ -6,7 +6,7 @@ use Rattle.scalar.proofs.vectors.sub_assign.Goals as goal
 
 pub loop-i-preserved : goal.loop-i-preserved
 loop-i-preserved g c =
-    let o = g.N-as-Scalar.kind.ops in
+    let o = g.N.Scalar.kind.ops in
     let i = c.loop-i.i in
     let xs = c.args.xs.now in
     let ys = c.loop-i.ys in

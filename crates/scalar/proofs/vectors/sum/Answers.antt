@@ -6,7 +6,7 @@ use Rattle.scalar.proofs.vectors.sum.Goals as goal
 
 pub loop-i-preserved : goal.loop-i-preserved
 loop-i-preserved g c =
-    let o = g.N-as-Scalar.kind.ops in
+    let o = g.N.Scalar.kind.ops in
     let xs = c.args.xs.now in
     let i = c.loop-i.i in
     let x : c.index-xs-i.result ≡ at o xs i = get_or_read xs i _ (omega arith) c.index-xs-i.is _ in

@@ -5,27 +5,27 @@ use Rattle.checkpointing.proofs.interpolator.HermiteInterpolator.interpolate.Goa
 
 pub returns-then-out-self : goal.returns-then-out-self
 returns-then-out-self g c =
-    let o = g.row.N-Scalar.kind.ops in
+    let o = g.row.N.Scalar.kind.ops in
     let s = c.args.self.now in
     let K = knot_at o s.dim s.rows.now in
     let old = c.args.out.now in
-    let t = g.row.N-Scalar.kind.value c.args.t in
+    let t = g.row.N.Scalar.kind.value c.args.t in
     let e = answer_other o K t s.dim (length old) (knots o s.dim s.rows.now s.count) c.if-out-self.true in
     record { found = ap is_some (sym e); out = ap (λ x. unwrap_or x old) (sym e) }
 
 pub returns-then-self-eq0 : goal.returns-then-self-eq0
 returns-then-self-eq0 g c =
-    let o = g.row.N-Scalar.kind.ops in
+    let o = g.row.N.Scalar.kind.ops in
     let s = c.args.self.now in
     let K = knot_at o s.dim s.rows.now in
     let old = c.args.out.now in
-    let t = g.row.N-Scalar.kind.value c.args.t in
+    let t = g.row.N.Scalar.kind.value c.args.t in
     let e = answer_is o K t s.dim (length old) s.count None (omega arith) (asked_none o K t s.count (omega arith)) in
     record { found = ap is_some (sym e); out = ap (λ x. unwrap_or x old) (sym e) }
 
 pub returns-then-outside : goal.returns-then-outside
 returns-then-outside g c =
-    let o = g.row.N-Scalar.kind.ops in
+    let o = g.row.N.Scalar.kind.ops in
     let s = c.args.self.now in
     let K = knot_at o s.dim s.rows.now in
     let old = c.args.out.now in
@@ -36,7 +36,7 @@ returns-then-outside g c =
 
 pub returns-then-self-eq1 : goal.returns-then-self-eq1
 returns-then-self-eq1 g c =
-    let o = g.row.N-Scalar.kind.ops in
+    let o = g.row.N.Scalar.kind.ops in
     let s = c.args.self.now in
     let K = knot_at o s.dim s.rows.now in
     let old = c.args.out.now in
@@ -47,7 +47,7 @@ returns-then-self-eq1 g c =
 
 pub returns-then-equals : goal.returns-then-equals
 returns-then-equals g c =
-    let o = g.row.N-Scalar.kind.ops in
+    let o = g.row.N.Scalar.kind.ops in
     let s = c.args.self.now in
     let K = knot_at o s.dim s.rows.now in
     let old = c.args.out.now in
@@ -60,7 +60,7 @@ returns-then-equals g c =
 
 pub returns : goal.returns
 returns g c =
-    let o = g.row.N-Scalar.kind.ops in
+    let o = g.row.N.Scalar.kind.ops in
     let s = c.args.self.now in
     let K = knot_at o s.dim s.rows.now in
     let old = c.args.out.now in

@@ -7,11 +7,11 @@ use Rattle.checkpointing.proofs.interpolator.HermiteInterpolator.push.Goals as g
 
 pub returns : goal.returns
 returns g c =
-    let o = g.row.N-Scalar.kind.ops in
+    let o = g.row.N.Scalar.kind.ops in
     let s = c.args.self.now in
     let u = c.args.u.now in
     let f = c.args.f.now in
-    let t = g.row.N-Scalar.kind.value c.args.t in
+    let t = g.row.N.Scalar.kind.value c.args.t in
     let w = 1 + 2 * s.dim in
     let old : c.replace-rows.result.now ≡ s.rows.now = ap (λ r. r.now) c.replace-rows.ensures.value in
     let room : s.count * w + w ≤ length s.rows.now = omega arith in

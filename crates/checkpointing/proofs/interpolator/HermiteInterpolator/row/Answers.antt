@@ -24,7 +24,7 @@ slice-bounds-result-end g c = let h = row_within c.args.k c.args.self.now.count 
 pub returns : goal.returns
 returns g c =
     let s = c.args.self.now in
-    let o = g.row.N-Scalar.kind.ops in
+    let o = g.row.N.Scalar.kind.ops in
     let h = row_within c.args.k c.args.self.now.count (1 + 2 * c.args.self.now.dim) c.requires in
     let e = row_is o s.rows.now c.args.k (1 + 2 * s.dim) in
     record { row = e; len = ap length e ∙ row_length o s.rows.now c.args.k (1 + 2 * s.dim) (omega arith) }
