@@ -10,7 +10,7 @@ use Rattle.adjoint.proofs.correct.correct_lanes.Goals as goal
 
 pub returns : goal.returns
 returns g c =
-    let o = g.row.N.Scalar.kind.ops in
+    let o = g.N.Scalar.kind.ops in
     let m = g.E.OdeEquations.model c.args.eqn.now in
     let v = c.args.v.now in
     let p = c.gather.new.out in

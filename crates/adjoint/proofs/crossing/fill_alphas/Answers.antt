@@ -9,7 +9,7 @@ use Rattle.adjoint.proofs.crossing.fill_alphas.Goals as goal
 
 pub loop-i-init : goal.loop-i-init
 loop-i-init g c =
-    lanes_none (alpha_lane g.row.N.Scalar.kind.ops c.args.gap.now c.args.rate c.args.roots c.args.r c.args.w c.args.s.now) c.args.roots c.args.lanes c.args.out.now
+    lanes_none (alpha_lane g.N.Scalar.kind.ops c.args.gap.now c.args.rate c.args.roots c.args.r c.args.w c.args.s.now) c.args.roots c.args.lanes c.args.out.now
 
 pub overflow-mul-i : goal.overflow-mul-i
 overflow-mul-i g c = let h = row_within c.loop-i.i c.args.lanes c.args.w (omega arith) in search rules
@@ -25,7 +25,7 @@ lane-alpha-requires g c =
 
 pub loop-i-preserved : goal.loop-i-preserved
 loop-i-preserved g c =
-    let o = g.row.N.Scalar.kind.ops in
+    let o = g.N.Scalar.kind.ops in
     let i = c.loop-i.i in
     let n = c.args.roots in
     let out = c.loop-i.out in
@@ -37,7 +37,7 @@ loop-i-preserved g c =
 
 pub returns : goal.returns
 returns g c =
-    let o = g.row.N.Scalar.kind.ops in
+    let o = g.N.Scalar.kind.ops in
     let f = alpha_lane o c.args.gap.now c.args.rate c.args.roots c.args.r c.args.w c.args.s.now in
     sym (lanes_all f c.args.roots c.args.lanes c.loop-i.out c.loop-i.i (omega arith))
     ∙ c.loop-i.invariant

@@ -6,5 +6,5 @@ use Rattle.adjoint.proofs.crossing.fill_alphas.Given as goal
 
 abbrev pub invariant-loop-i : goal.invariant-loop-i
 invariant-loop-i g l =
-    let f = alpha_lane g.row.N.Scalar.kind.ops l.gap l.rate l.roots l.r l.w l.s in
+    let f = alpha_lane g.N.Scalar.kind.ops l.gap l.rate l.roots l.r l.w l.s in
     partly f l.roots l.lanes l.out l.i ≡ laned f l.roots 0 l.lanes l.initial.out

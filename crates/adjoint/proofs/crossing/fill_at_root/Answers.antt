@@ -5,11 +5,11 @@ use Rattle.adjoint.proofs.crossing.fill_at_root.Goals as goal
 
 pub loop-i-preserved : goal.loop-i-preserved
 loop-i-preserved g c k h =
-    let o = g.row.N.Scalar.kind.ops in
+    let o = g.N.Scalar.kind.ops in
     let inside : c.loop-i.i < length c.loop-i.part = omega arith in
     simp c.place-of.ensures (fill_by_more (λ i. cond (eqb i c.args.r) c.args.a (o.whole 0)) c.loop-i.part c.loop-i.i (o.whole 0) inside c.loop-i.invariant k h)
 
 pub returns : goal.returns
 returns g c =
-    let o = g.row.N.Scalar.kind.ops in
+    let o = g.N.Scalar.kind.ops in
     fill_by_all (λ i. cond (eqb i c.args.r) c.args.a (o.whole 0)) c.loop-i.part (length c.args.part.now) (o.whole 0) (omega arith) (λ k h. c.loop-i.invariant k (omega arith))

@@ -14,7 +14,7 @@ offset-bounds-v-mid g c = let e = ap (λ k. c.args.channels * k) c.requires.stat
 
 pub returns : goal.returns
 returns g c =
-    let o = g.row.N.Scalar.kind.ops in
+    let o = g.N.Scalar.kind.ops in
     let m = g.E.OdeEquations.model c.args.eqn.now in
     let v = c.args.v.now in
     let x = c.args.x.now in

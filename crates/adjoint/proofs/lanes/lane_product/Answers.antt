@@ -8,7 +8,7 @@ use Rattle.adjoint.proofs.lanes.lane_product.Goals as goal
 
 pub returns-in-Become : goal.returns-in-Become
 returns-in-Become g c =
-    let o = g.row.N.Scalar.kind.ops in
+    let o = g.N.Scalar.kind.ops in
     let m = c.args.m.now in
     let v = c.args.v.now in
     let part = c.args.part.now in

@@ -8,7 +8,7 @@ use Rattle.adjoint.proofs.Laned.{partly, lanes_none, lane_more, lanes_all, lane_
 use Rattle.adjoint.proofs.lanes.with_products.Goals as goal
 
 pub loop-i-init : goal.loop-i-init
-loop-i-init g c = (refl, lanes_none (lane_product g.row.N.Scalar.kind.ops c.args.mode c.args.m.now (length c.args.product.now) c.args.rows c.args.vectors.now) (length c.args.product.now) c.args.lanes c.args.parts.now)
+loop-i-init g c = (refl, lanes_none (lane_product g.N.Scalar.kind.ops c.args.mode c.args.m.now (length c.args.product.now) c.args.rows c.args.vectors.now) (length c.args.product.now) c.args.lanes c.args.parts.now)
 
 pub overflow-mul-b : goal.overflow-mul-b
 overflow-mul-b g c = let h = row_within c.loop-i.i c.args.lanes c.args.rows (omega arith) in search rules
@@ -37,7 +37,7 @@ lane-at-requires g c =
 
 pub loop-i-preserved : goal.loop-i-preserved
 loop-i-preserved g c =
-    let o = g.row.N.Scalar.kind.ops in
+    let o = g.N.Scalar.kind.ops in
     let i = c.loop-i.i in
     let rows = c.args.rows in
     let w = length c.args.product.now in
@@ -54,4 +54,4 @@ loop-i-preserved g c =
     )
 
 pub returns : goal.returns
-returns g c = sym (lanes_all (lane_product g.row.N.Scalar.kind.ops c.args.mode c.args.m.now (length c.args.product.now) c.args.rows c.args.vectors.now) (length c.args.product.now) c.args.lanes c.loop-i.parts c.loop-i.i (omega arith)) ∙ c.loop-i.invariant.1
+returns g c = sym (lanes_all (lane_product g.N.Scalar.kind.ops c.args.mode c.args.m.now (length c.args.product.now) c.args.rows c.args.vectors.now) (length c.args.product.now) c.args.lanes c.loop-i.parts c.loop-i.i (omega arith)) ∙ c.loop-i.invariant.1

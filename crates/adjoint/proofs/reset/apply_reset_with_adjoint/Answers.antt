@@ -9,7 +9,7 @@ use Rattle.adjoint.proofs.reset.apply_reset_with_adjoint.Goals as goal
 
 pub reset-lanes-requires : goal.reset-lanes-requires
 reset-lanes-requires g c =
-    let o = g.row.N.Scalar.kind.ops in
+    let o = g.N.Scalar.kind.ops in
     let m = g.E.OdeEquations.model c.args.eqn.now in
     let n = c.args.channels in
     let w = c.args.work.now in

@@ -7,7 +7,7 @@ use Rattle.adjoint.proofs.reset.cross.Goals as goal
 
 pub returns : goal.returns
 returns g c =
-    let o = g.row.N.Scalar.kind.ops in
+    let o = g.N.Scalar.kind.ops in
     let v = c.args.v.now in
     let n = c.args.lanes in
     let ns = length c.args.state.now in

@@ -7,7 +7,7 @@ use Rattle.adjoint.proofs.reset.reset_lanes.Goals as goal
 
 pub returns : goal.returns
 returns g c =
-    let o = g.row.N.Scalar.kind.ops in
+    let o = g.N.Scalar.kind.ops in
     let m = g.E.OdeEquations.model c.args.eqn.now in
     let v = c.args.v.now in
     let np = length c.args.gradient.now in

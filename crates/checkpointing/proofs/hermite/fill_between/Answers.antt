@@ -8,7 +8,7 @@ use Rattle.checkpointing.proofs.hermite.fill_between.Goals as goal
 
 pub loop-i-preserved : goal.loop-i-preserved
 loop-i-preserved g c d θ is k h =
-    let o = g.row.N.Scalar.kind.ops in
+    let o = g.N.Scalar.kind.ops in
     let i = c.loop-i.i in
     let a = c.args.a.now in
     let b = c.args.b.now in
@@ -24,7 +24,7 @@ loop-i-preserved g c d θ is k h =
 
 pub returns : goal.returns
 returns g c =
-    let o = g.row.N.Scalar.kind.ops in
+    let o = g.N.Scalar.kind.ops in
     let a = c.args.a.now in
     let b = c.args.b.now in
     let t0 : c.index-a-0.result ≡ at o a 0 = get_or_read a 0 _ (omega arith) c.index-a-0.is _ in

@@ -6,6 +6,6 @@ use Rattle.checkpointing.proofs.hermite.fill_between.Given as goal
 
 abbrev pub invariant-loop-i : goal.invariant-loop-i
 invariant-loop-i g l =
-    let o = g.row.N.Scalar.kind.ops in
+    let o = g.N.Scalar.kind.ops in
     (d θ : g.row.N.Denot) → Weighs o d θ l.w → (k : ℕ) → k < l.i
     → at o l.out k ≡ cubic o d θ (at o l.a (1 + k)) (at o l.a (1 + l.dim + k)) (at o l.b (1 + k)) (at o l.b (1 + l.dim + k))

@@ -11,8 +11,8 @@ returns-then-belongs g c =
     let in_ends : c.loop-n.n - 1 < length ends = omega arith in
     let a = get_or_default ends (c.loop-n.n - 1) c.index-ends-n.result (t, t) in_ends in
     let b = get_or_default ends (c.loop-n.n - 1) c.index-ends-n-in-loop-n.result (t, t) in_ends in
-    let e = sym (found g.row.N.Scalar.kind ends t c.loop-n.n (omega arith) (cc)) ∙ c.loop-n.invariant.1 in
-    record { answer = e; last = last_is g.row.N.Scalar.kind ends t _ e }
+    let e = sym (found g.N.Scalar.kind ends t c.loop-n.n (omega arith) (cc)) ∙ c.loop-n.invariant.1 in
+    record { answer = e; last = last_is g.N.Scalar.kind ends t _ e }
 
 pub loop-n-preserved : goal.loop-n-preserved
 loop-n-preserved g c =
@@ -21,12 +21,12 @@ loop-n-preserved g c =
     let in_ends : c.loop-n.n - 1 < length ends = omega arith in
     let a = get_or_default ends (c.loop-n.n - 1) c.index-ends-n.result (t, t) in_ends in
     let b = get_or_default ends (c.loop-n.n - 1) c.index-ends-n-in-loop-n.result (t, t) in_ends in
-    (omega arith, sym (passed g.row.N.Scalar.kind ends t c.loop-n.n (omega arith) (cc)) ∙ c.loop-n.invariant.1)
+    (omega arith, sym (passed g.N.Scalar.kind ends t c.loop-n.n (omega arith) (cc)) ∙ c.loop-n.invariant.1)
 
 pub returns : goal.returns
 returns g c =
     let t = c.args.t in
     let ends = c.args.ends.now in
     let none : 0 ≡ c.loop-n.n = omega arith in
-    let e = ap (last_of g.row.N.Scalar.kind ends t) none ∙ c.loop-n.invariant.1 in
-    record { answer = e; last = last_is g.row.N.Scalar.kind ends t _ e }
+    let e = ap (last_of g.N.Scalar.kind ends t) none ∙ c.loop-n.invariant.1 in
+    record { answer = e; last = last_is g.N.Scalar.kind ends t _ e }

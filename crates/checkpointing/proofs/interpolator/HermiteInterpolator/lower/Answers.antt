@@ -6,7 +6,7 @@ use Rattle.checkpointing.proofs.interpolator.HermiteInterpolator.lower.Goals.{th
 
 pub loop-n-preserved : goal.loop-n-preserved
 loop-n-preserved g c =
-    let o = g.row.N.Scalar.kind.ops in
+    let o = g.N.Scalar.kind.ops in
     let s = c.args.self.now in
     let K = knot_at o s.dim s.rows.now in
     let b : o.before c.args.t (K (c.loop-n.n - 1)).t ≡ true = sym (c.if-before.ensures ∙ ap (o.before c.args.t) c.time.ensures) in
@@ -14,7 +14,7 @@ loop-n-preserved g c =
 
 pub returns : goal.returns
 returns g c =
-    let o = g.row.N.Scalar.kind.ops in
+    let o = g.N.Scalar.kind.ops in
     let s = c.args.self.now in
     let K = knot_at o s.dim s.rows.now in
     let n = c.loop-n.n in

@@ -4,7 +4,7 @@ use Rattle.checkpointing.proofs.interpolator.HermiteInterpolator.lower.Given as 
 
 abbrev pub invariant-loop-n : goal.invariant-loop-n
 invariant-loop-n g l =
-    let o = g.row.N.Scalar.kind.ops in
+    let o = g.N.Scalar.kind.ops in
     let K = knot_at o l.self.dim l.self.rows.now in
     (0 < l.n) × (l.n ≤ l.self.count) × (last_not_after o K l.t l.n ≡ last_not_after o K l.t l.self.count)
 
