@@ -28,7 +28,7 @@ pub returns-then-n-limit : goal.returns-then-n-limit
 returns-then-n-limit c =
     let s = c.args.digits.now in
     let i = c.loop-b.b-index in
-    let some : 0 < length s = omega (arith, eqb-false (length s) 0 (sym c.if-is-empty.ensures)) in
+    let some : 0 < length s = omega (arith, eqb-false (length s) 0 (sym c.if-is_empty.ensures)) in
     record {
       value = size_much c.args.limit s some c.loop-b.n (sym c.loop-b.invariant.0 ∙ at_drop_all digits s i (omega arith)) (omega arith)
           (sym (ap (λ d. min d (c.args.limit + 1)) (at_drop_all (decimal c.loop-b.n) s i (omega arith))) ∙ c.loop-b.invariant.1);
@@ -39,7 +39,7 @@ pub returns-else-n-limit : goal.returns-else-n-limit
 returns-else-n-limit c =
     let s = c.args.digits.now in
     let i = c.loop-b.b-index in
-    let some : 0 < length s = omega (arith, eqb-false (length s) 0 (sym c.if-is-empty.ensures)) in
+    let some : 0 < length s = omega (arith, eqb-false (length s) 0 (sym c.if-is_empty.ensures)) in
     record {
       value = size_fits c.args.limit s some c.loop-b.n (sym c.loop-b.invariant.0 ∙ at_drop_all digits s i (omega arith)) (omega arith)
           (sym (ap (λ d. min d (c.args.limit + 1)) (at_drop_all (decimal c.loop-b.n) s i (omega arith))) ∙ c.loop-b.invariant.1);

@@ -39,12 +39,12 @@ loop-k-preserved c =
     let fits : SFits w64 z = search rules in
     let back : to_z w64 (of_z w64 z) ≡ z = to_z-of_z w64 z fits in
     let p = c.loop-k.last in
-    let inv = c.loop-k.invariant.2 ∙ ap (λ q. steps_of (c.args.first + k) q (segments 0 (drop (7 * k) zs))) c.loop-k.last_is in
+    let inv = c.loop-k.invariant.2 ∙ ap (λ q. steps_of (c.args.first + k) q (segments 0 (drop (7 * k) zs))) c.loop-k.last-is in
     let more = order_more zs (c.args.first + k) (7 * k) (7 * (k + 1)) p _ inv (omega arith) (omega arith) (c.args.first + (k + 1)) (to_z w64 (of_z w64 z)) (omega arith) back in
     elim c.else-segment-last.branch [
       | else-segment-last-via-then-segment-last+else-segment-last-2 w ↦
           let q : z ≡ p +ℤ pos 1 = omega (arith, ints) in (omega (arith, ints), omega (arith, ints), more (inr q))
-      | else-segment-last-via-else-segment-last w ↦ let q : z ≡ p = sym back ∙ ap (to_z w64) w.if-segment-last.false ∙ c.loop-k.last_is in (omega (arith, ints), omega (arith, ints), more (inl q))
+      | else-segment-last-via-else-segment-last w ↦ let q : z ≡ p = sym back ∙ ap (to_z w64) w.if-segment-last.false ∙ c.loop-k.last-is in (omega (arith, ints), omega (arith, ints), more (inl q))
     ]
 
 pub returns : goal.returns

@@ -8,6 +8,6 @@ use Rattle.tables.proofs.points.checkpoints.Goals as goal
 pub ordered-requires : goal.ordered-requires
 ordered-requires c =
     let bs = c.args.input.now in
-    let first = c.in-ok-first.first in
-    let law = rows_law c.args.limit 7 first.number (lines_of (drop first.at bs)) (read_of bs c.in-ok-rows.rows) c.in-ok-rows.ensures in
-    record { rows = (law.0, ap length c.as-slice.ensures.value ∙ law.1, omega (arith, law.2)); below = omega arith }
+    let first = c.in_ok-first.first in
+    let law = rows_law c.args.limit 7 first.number (lines_of (drop first.at bs)) (read_of bs c.in_ok-rows.rows) c.in_ok-rows.ensures in
+    record { rows = (law.0, ap length c.as_slice.ensures.value ∙ law.1, omega (arith, law.2)); below = omega arith }

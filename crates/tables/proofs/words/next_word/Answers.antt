@@ -6,18 +6,18 @@ use Rattle.tables.proofs.words.next_word.Goals as goal
 
 pub returns-then-start-end : goal.returns-then-start-end
 returns-then-start-end c =
-    let f = c.next-break-end.ensures.first in
+    let f = c.next_break-end.ensures.first in
     record {
       turn = omega arith;
       within = f.within;
       last = λ e. absurd (omega arith);
       after = λ l. omega arith;
-      more = λ l. sym c.loop-start.invariant ∙ word_at c.args.line.now c.loop-start.start c.next-break-end.result l f;
+      more = λ l. sym c.loop-start.invariant ∙ word_at c.args.line.now c.loop-start.start c.next_break-end.result l f;
     }
 
 pub loop-start-preserved : goal.loop-start-preserved
 loop-start-preserved c =
-    sym (skip c.args.line.now c.loop-start.start c.next-break-end.result c.loop-start-test.true c.next-break-end.ensures.first c.if-start-end.false)
+    sym (skip c.args.line.now c.loop-start.start c.next_break-end.result c.loop-start-test.true c.next_break-end.ensures.first c.if-start-end.false)
     ∙ c.loop-start.invariant
 
 pub returns : goal.returns
