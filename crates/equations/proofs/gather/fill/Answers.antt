@@ -1,5 +1,5 @@
 use Rattle.std.proofs.Common.{◌≡◌, ℕ, ◌+◌, ◌*◌, ◌<◌, Ok, Err, sym, ap, ◌∙◌, subst, arith, rules}
-use Rattle.equations.specs.Model.{entries, column}
+use Rattle.equations.specs.Model.{entries}
 use Rattle.equations.proofs.Fills.{fill_more, fill_refused, fill_all}
 use Rattle.equations.proofs.Entries.{entry_is, row_below, next_row, next_column}
 use Rattle.equations.proofs.gather.fill.Goals as goal
@@ -16,8 +16,8 @@ returns-in-Err g c =
     let e = fill_refused f c.loop-k.out c.args.out.now c.loop-k.k c.in-Err.e (omega arith) told c.loop-k.invariant.2 in
     record { answer = sym (ap (λ r. r.answer) e); cells = sym (ap (λ r. r.cells) e) }
 
-pub overflow-add-i : goal.overflow-add-i
-overflow-add-i g c = let h = row_below c.loop-k.i c.loop-k.j c.args.columns c.loop-k.k c.loop-k.invariant.0 c.loop-k.invariant.1 in search rules
+pub overflow_add-i : goal.overflow_add-i
+overflow_add-i g c = let h = row_below c.loop-k.i c.loop-k.j c.args.columns c.loop-k.k c.loop-k.invariant.0 c.loop-k.invariant.1 in search rules
 
 pub loop-k-preserved : goal.loop-k-preserved
 loop-k-preserved g c =
