@@ -1,5 +1,5 @@
 -- What sizes that fit say.
-use Rattle.std.proofs.Common.{◌≡◌, ℕ, true, ◌&&◌, eqb, Some, None, Option, sym, ap}
+use Rattle.std.proofs.Common.{◌≡◌, ℕ, true, eqb, Some, None, Option, sym, ap}
 use Rattle.std.proofs.lemmas.Bool.{and_parts, eqb-true}
 use Rattle.equations.specs.Model.{Model}
 use Rattle.adjoint.specs.declared.measures.Sizes.{Sizes}

@@ -1,4 +1,4 @@
-use Rattle.std.proofs.Common.{◌≡◌, ℕ, ◌-◌, ◌*◌, ◌≤◌, [], ◌++◌, length, take, drop, Ok, sym, ap, ◌∙◌, arith}
+use Rattle.std.proofs.Common.{◌≡◌, ◌-◌, ◌*◌, [], ◌++◌, length, take, drop, Ok, sym, ap, ◌∙◌, arith}
 use Rattle.std.proofs.lemmas.List.{take_rest}
 use Rattle.equations.specs.declared.op.Op.TheVariants.{Init}
 use Rattle.equations.specs.declared.op.Wrt.TheVariants.{Parameters}
@@ -20,17 +20,17 @@ returns g c =
     let wide : np ≡ m.parameters = c.requires.wide in
     let none : np ≡ 0 → m.states * m.parameters ≡ 0 = λ z. ap (λ k. m.states * k) (sym wide ∙ z) ∙ (omega arith) in
     let gathers : matrix_of m Init Parameters np c.args.start [] (m.states * m.parameters) ≡ Ok p =
-    gather_ok m Init Parameters np (m.states * m.parameters) c.args.start [] c.args.matrix.now p c.requires.full none c.in-ok-gather.ensures.answer c.gather.ensures.cells in
+    gather_ok m Init Parameters np (m.states * m.parameters) c.args.start [] c.args.matrix.now p c.requires.full none c.in_ok-gather.ensures.answer c.gather.ensures.cells in
     let whole : mid - 0 ≡ mid = omega arith in
-    let copied : c.copy-from-slice.new.self ≡ take mid v = c.copy-from-slice.ensures.after ∙ ap (λ k. take k v) whole in
-    let made : c.with-products.new.parts ≡ with_products o Lose p np m.states (take mid v) n (drop mid v) =
-    c.with-products.ensures
-    ∙ ap (λ k. with_products o Lose p np k c.copy-from-slice.new.self n (take (length v - mid) (drop mid v))) c.nstates-states.ensures
+    let copied : c.copy_from_slice.new.self ≡ take mid v = c.copy_from_slice.ensures.after ∙ ap (λ k. take k v) whole in
+    let made : c.with_products.new.parts ≡ with_products o Lose p np m.states (take mid v) n (drop mid v) =
+    c.with_products.ensures
+    ∙ ap (λ k. with_products o Lose p np k c.copy_from_slice.new.self n (take (length v - mid) (drop mid v))) c.nstates-states.ensures
     ∙ ap (λ xs. with_products o Lose p np m.states xs n (take (length v - mid) (drop mid v))) copied
     ∙ ap (λ xs. with_products o Lose p np m.states (take mid v) n xs) (take_rest v mid) in
     corrects o m n c.args.start v p _
     (ap (λ k. matrix_of m Init Parameters k c.args.start [] (m.states * m.parameters)) (sym wide) ∙ gathers)
-    (rest_written v c.with-products.new.parts mid (omega arith) (omega arith)
+    (rest_written v c.with_products.new.parts mid (omega arith) (omega arith)
     ∙ ap (λ zs. take mid v ++ zs) made
     ∙ ap (λ k. take mid v ++ with_products o Lose p k m.states (take mid v) n (drop mid v)) wide
     ∙ ap (λ k. take k v ++ with_products o Lose p m.parameters m.states (take k v) n (drop k v)) c.requires.first)

@@ -11,14 +11,14 @@ pub loop-i-init : goal.loop-i-init
 loop-i-init g c =
     lanes_none (alpha_lane g.N.Scalar.kind.ops c.args.gap.now c.args.rate c.args.roots c.args.r c.args.w c.args.s.now) c.args.roots c.args.lanes c.args.out.now
 
-pub overflow-mul-i : goal.overflow-mul-i
-overflow-mul-i g c = let h = row_within c.loop-i.i c.args.lanes c.args.w (omega arith) in search rules
+pub overflow_mul-i : goal.overflow_mul-i
+overflow_mul-i g c = let h = row_within c.loop-i.i c.args.lanes c.args.w (omega arith) in search rules
 
-pub overflow-mul-i-in-loop-i : goal.overflow-mul-i-in-loop-i
-overflow-mul-i-in-loop-i g c = let h = row_within c.loop-i.i c.args.lanes c.args.roots (omega arith) in search rules
+pub overflow_mul-i-in-loop-i : goal.overflow_mul-i-in-loop-i
+overflow_mul-i-in-loop-i g c = let h = row_within c.loop-i.i c.args.lanes c.args.roots (omega arith) in search rules
 
-pub lane-alpha-requires : goal.lane-alpha-requires
-lane-alpha-requires g c =
+pub lane_alpha-requires : goal.lane_alpha-requires
+lane_alpha-requires g c =
     let a = row_within c.loop-i.i c.args.lanes c.args.w (omega arith) in
     let b = row_within c.loop-i.i c.args.lanes c.args.roots (omega arith) in
     (omega arith, omega arith)
@@ -33,7 +33,7 @@ loop-i-preserved g c =
     let b = row_within i c.args.lanes n (omega arith) in
     let room : i * n + n ≤ length out = omega arith in
     let long : length (f i (lane_from (i * n) n out)) ≡ n = length-map-range_with_len (λ k. cond (eqb k c.args.r) (alpha o c.args.gap.now c.args.rate (lane_of c.args.w c.args.s.now i)) (o.whole 0)) 0 n in
-    ap (λ xs. partly f n c.args.lanes xs (i + 1)) c.lane-alpha.ensures ∙ lane_more f n c.args.lanes out (f i (lane_from (i * n) n out)) i (omega arith) room long refl ∙ c.loop-i.invariant
+    ap (λ xs. partly f n c.args.lanes xs (i + 1)) c.lane_alpha.ensures ∙ lane_more f n c.args.lanes out (f i (lane_from (i * n) n out)) i (omega arith) room long refl ∙ c.loop-i.invariant
 
 pub returns : goal.returns
 returns g c =

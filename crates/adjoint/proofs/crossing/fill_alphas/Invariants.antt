@@ -1,4 +1,4 @@
-use Rattle.std.proofs.Common.{◌≡◌, length}
+use Rattle.std.proofs.Common.{◌≡◌}
 use Rattle.adjoint.specs.Lanes.{laned}
 use Rattle.adjoint.proofs.Laned.{partly}
 use Rattle.adjoint.proofs.Alphas.{alpha_lane}

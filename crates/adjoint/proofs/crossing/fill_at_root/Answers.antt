@@ -7,7 +7,7 @@ pub loop-i-preserved : goal.loop-i-preserved
 loop-i-preserved g c k h =
     let o = g.N.Scalar.kind.ops in
     let inside : c.loop-i.i < length c.loop-i.part = omega arith in
-    simp c.place-of.ensures (fill_by_more (λ i. cond (eqb i c.args.r) c.args.a (o.whole 0)) c.loop-i.part c.loop-i.i (o.whole 0) inside c.loop-i.invariant k h)
+    simp c.place_of.ensures (fill_by_more (λ i. cond (eqb i c.args.r) c.args.a (o.whole 0)) c.loop-i.part c.loop-i.i (o.whole 0) inside c.loop-i.invariant k h)
 
 pub returns : goal.returns
 returns g c =

@@ -6,4 +6,4 @@ use Rattle.adjoint.proofs.crossing.gather_matrix.Goals as goal
 pub returns : goal.returns
 returns g c =
     ap of_model
-    (gather_ok (g.E.OdeEquations.model c.args.eqn.now) c.args.op c.args.wrt c.args.columns (length c.args.out.now) c.args.t c.args.x.now c.args.out.now c.gather.new.out refl c.requires c.in-ok-gather.ensures.answer c.gather.ensures.cells)
+    (gather_ok (g.E.OdeEquations.model c.args.eqn.now) c.args.op c.args.wrt c.args.columns (length c.args.out.now) c.args.t c.args.x.now c.args.out.now c.gather.new.out refl c.requires c.in_ok-gather.ensures.answer c.gather.ensures.cells)

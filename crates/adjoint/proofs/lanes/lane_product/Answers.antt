@@ -14,11 +14,11 @@ returns-in-Become g c =
     let part = c.args.part.now in
     let wide : length c.args.product.now ≡ length part = c.requires.1 in
     let full : length m ≡ length v * length c.args.product.now = c.requires.0 ∙ ap (λ k. length v * k) (sym wide) in
-    let made : c.minus-transposed-product.new.out ≡ product_of o m (length part) v =
-    c.minus-transposed-product.ensures.out
+    let made : c.minus_transposed_product.new.out ≡ product_of o m (length part) v =
+    c.minus_transposed_product.ensures.out
     ∙ ap (λ b. cond b (product_of o m (length c.args.product.now) v) c.args.product.now) (eq-eqb (length m) (length v * length c.args.product.now) full)
     ∙ ap (λ k. product_of o m k v) wide in
     let long : length part ≡ length (product_of o m (length part) v) = omega (arith, ap length made) in
-    c.copy-from-slice.ensures.after ∙ made
+    c.copy_from_slice.ensures.after ∙ made
     ∙ takes_over (combined o Become) (λ y x. refl) part (product_of o m (length part) v) long
     ∙ ap (λ k. placewise (combined o k) part (product_of o m (length part) v)) (sym c.in-Become.is)

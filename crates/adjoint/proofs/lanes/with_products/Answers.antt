@@ -10,23 +10,23 @@ use Rattle.adjoint.proofs.lanes.with_products.Goals as goal
 pub loop-i-init : goal.loop-i-init
 loop-i-init g c = (refl, lanes_none (lane_product g.N.Scalar.kind.ops c.args.mode c.args.m.now (length c.args.product.now) c.args.rows c.args.vectors.now) (length c.args.product.now) c.args.lanes c.args.parts.now)
 
-pub overflow-mul-b : goal.overflow-mul-b
-overflow-mul-b g c = let h = row_within c.loop-i.i c.args.lanes c.args.rows (omega arith) in search rules
+pub overflow_mul-b : goal.overflow_mul-b
+overflow_mul-b g c = let h = row_within c.loop-i.i c.args.lanes c.args.rows (omega arith) in search rules
 
-pub overflow-add-b : goal.overflow-add-b
-overflow-add-b g c = let h = row_within c.loop-i.i c.args.lanes c.args.rows (omega arith) in search rules
+pub overflow_add-b : goal.overflow_add-b
+overflow_add-b g c = let h = row_within c.loop-i.i c.args.lanes c.args.rows (omega arith) in search rules
 
-pub offset-bounds-vectors-b : goal.offset-bounds-vectors-b
-offset-bounds-vectors-b g c = let h = row_within c.loop-i.i c.args.lanes c.args.rows (omega arith) in search rules
+pub offset_bounds-vectors-b : goal.offset_bounds-vectors-b
+offset_bounds-vectors-b g c = let h = row_within c.loop-i.i c.args.lanes c.args.rows (omega arith) in search rules
 
-pub slice-bounds-lane-at-end : goal.slice-bounds-lane-at-end
-slice-bounds-lane-at-end g c = let h = row_within c.loop-i.i c.args.lanes c.args.rows (omega arith) in search rules
+pub slice_bounds-lane_at-end : goal.slice_bounds-lane_at-end
+slice_bounds-lane_at-end g c = let h = row_within c.loop-i.i c.args.lanes c.args.rows (omega arith) in search rules
 
-pub overflow-mul-i : goal.overflow-mul-i
-overflow-mul-i g c = let h = row_within c.loop-i.i c.args.lanes (length c.args.product.now) (omega arith) in search rules
+pub overflow_mul-i : goal.overflow_mul-i
+overflow_mul-i g c = let h = row_within c.loop-i.i c.args.lanes (length c.args.product.now) (omega arith) in search rules
 
-pub lane-at-requires : goal.lane-at-requires
-lane-at-requires g c =
+pub lane_at-requires : goal.lane_at-requires
+lane_at-requires g c =
     let i = c.loop-i.i in
     let rows = c.args.rows in
     let w = length c.args.product.now in
@@ -50,7 +50,7 @@ loop-i-preserved g c =
     let own = ap (λ v. put_mid (i * w) w parts (placewise (combined o c.args.mode) (lane_from (i * w) w parts) (product_of o m w v))) (lane_cut vectors i rows) in
     let long : length (f i (lane_from (i * w) w parts)) ≡ w = length-placewise (combined o c.args.mode) (lane_from (i * w) w parts) (product_of o m w (lane_of rows vectors i)) ∙ lane_length parts i w room in (
       omega arith,
-      ap (λ xs. partly f w c.args.lanes xs (i + 1)) (c.lane-at.ensures ∙ own) ∙ lane_more f w c.args.lanes parts (f i (lane_from (i * w) w parts)) i (omega arith) room long refl ∙ c.loop-i.invariant.1,
+      ap (λ xs. partly f w c.args.lanes xs (i + 1)) (c.lane_at.ensures ∙ own) ∙ lane_more f w c.args.lanes parts (f i (lane_from (i * w) w parts)) i (omega arith) room long refl ∙ c.loop-i.invariant.1,
     )
 
 pub returns : goal.returns
