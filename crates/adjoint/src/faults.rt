@@ -1,8 +1,7 @@
 // What a rule refuses.
 ghost use Rattle.std.specs.Prelude.{◌≡◌, [], ◌∷◌};
-ghost use Rattle.adjoint.specs.Faults.{rule_told};
+ghost use Rattle.adjoint.specs.Faults.{rule_told, listed};
 ghost use Rattle.adjoint.specs.declared.faults.RuleFault.TheVariants.{Model};
-ghost use Rattle.std.proofs.Common.{rules};
 
 use refusals::Refusal;
 use refusals::sizes::WrongSize;
@@ -34,17 +33,18 @@ impl<T, F: Refusal<T>> Refusal<T> for RuleFault<F> {
 
     ghost numbers = { 1 ∷ 9 ∷ 10 ∷ 11 ∷ 12 ∷ 13 ∷ F.Refusal.numbers };
 
-    ghost listed = { Prim.search rules };
+    ghost listed = { listed F.Refusal.told F.Refusal.numbers F.Refusal.listed };
 
-    fn number(&self) -> u8 {
-        match self {
-            RuleFault::Size(_) => 1,
-            RuleFault::NoRootIndex(_) => 9,
-            RuleFault::NoReset(_) => 10,
-            RuleFault::NoRoot(_) => 11,
-            RuleFault::RootIndex(_) => 12,
-            RuleFault::SmallDenominator => 13,
-            RuleFault::Model(e) => e.number(),
+    fn number(fault: Option<&Self>) -> Option<u8> {
+        match fault {
+            None => None,
+            Some(RuleFault::Size(_)) => Some(1),
+            Some(RuleFault::NoRootIndex(_)) => Some(9),
+            Some(RuleFault::NoReset(_)) => Some(10),
+            Some(RuleFault::NoRoot(_)) => Some(11),
+            Some(RuleFault::RootIndex(_)) => Some(12),
+            Some(RuleFault::SmallDenominator) => Some(13),
+            Some(RuleFault::Model(e)) => F::number(Some(e)),
         }
     }
 }

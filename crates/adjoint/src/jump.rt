@@ -15,7 +15,7 @@ use scalar::Scalar;
 use scalar::vectors::add_assign;
 
 // With an output function of so many rows. `by_parameter`, `by_state` and the two products are working space.
-fn apply_delta_g_out<N: Scalar, E: OdeEquations<N>>(
+fn jump_out<N: Scalar, E: OdeEquations<N>>(
     eqn: &E,
     rows: usize,
     t: N::Time,
@@ -107,7 +107,7 @@ pub fn apply_delta_g<N: Scalar + Drop, E: OdeEquations<N>>(
     }
     match eqn.nout() {
         Some(rows) => {
-            apply_delta_g_out(
+            jump_out(
                 eqn,
                 rows,
                 t,

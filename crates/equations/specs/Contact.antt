@@ -6,7 +6,7 @@ use Rattle.equations.specs.declared.op.Op.{Op}
 use Rattle.equations.specs.declared.op.Op.TheVariants.{Rhs, Out, Root, Reset, Init}
 use Rattle.equations.specs.declared.op.By.{By}
 use Rattle.equations.specs.declared.op.By.TheVariants.{State, Parameter, Time}
-use Rattle.equations.specs.declared.NoFault.{NoFault}
+use Rattle.std.specs.declared.convert.Infallible.{Infallible}
 use Rattle.equations.specs.Model.{Model, cell}
 
 module _ {N : Type 0} (o : Ops N) (k c g b : N) where
@@ -44,7 +44,7 @@ module _ {N : Type 0} (o : Ops N) (k c g b : N) where
   derivatives op (Parameter j) z v i = cell o (by_parameter op z v) i j
   derivatives op Time z v i = none
 
-  abbrev pub contact : {T : Type 0} → Model N T NoFault
+  abbrev pub contact : {T : Type 0} → Model N T Infallible
   contact = record {
     states = 2;
     parameters = 4;

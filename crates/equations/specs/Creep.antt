@@ -6,7 +6,7 @@ use Rattle.equations.specs.declared.op.Op.{Op}
 use Rattle.equations.specs.declared.op.Op.TheVariants.{Rhs, Out, Root, Reset, Init}
 use Rattle.equations.specs.declared.op.By.{By}
 use Rattle.equations.specs.declared.op.By.TheVariants.{State, Parameter, Time}
-use Rattle.equations.specs.declared.NoFault.{NoFault}
+use Rattle.std.specs.declared.convert.Infallible.{Infallible}
 use Rattle.equations.specs.Model.{Model}
 
 module _ {N : Type 0} (o : Ops N) (p : List N) where
@@ -41,7 +41,7 @@ module _ {N : Type 0} (o : Ops N) (p : List N) where
   derivative Reset by x i = o.whole 0
   derivative Init by x i = o.whole 0
 
-  abbrev pub creep : {T : Type 0} → Model N T NoFault
+  abbrev pub creep : {T : Type 0} → Model N T Infallible
   creep = record {
     states = cells;
     parameters = length p;

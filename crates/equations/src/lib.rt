@@ -8,13 +8,12 @@ pub mod layers;
 pub mod op;
 mod pick;
 
-ghost use Rattle.std.specs.Prelude.{◌≡◌, []};
+ghost use Rattle.std.specs.Prelude.{◌≡◌};
 ghost use Rattle.equations.specs.Model.{Model};
-ghost use Rattle.std.proofs.Common.{rules};
 
 use op::{By, Op};
-use refusals::Refusal;
 use scalar::Scalar;
+use std::convert::Infallible;
 
 // A model: it answers by its arguments alone and stays as it was. What it answers is its meaning, `model`; an answer
 // may be a refusal of its own type.
@@ -50,17 +49,4 @@ pub trait OdeEquations<N: Scalar> {
 }
 
 // The models here refuse nothing.
-#[derive(Clone, Copy, Debug)]
-pub enum NoFault {}
-
-impl<T> Refusal<T> for NoFault {
-    ghost told = { λ e. elim e [ ] };
-
-    ghost numbers = { [] };
-
-    ghost listed = { Prim.search rules };
-
-    fn number(&self) -> u8 {
-        match *self {}
-    }
-}
+pub type NoFault = Infallible;

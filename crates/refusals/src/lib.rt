@@ -5,8 +5,10 @@
 pub mod sizes;
 pub mod times;
 
-ghost use Rattle.std.specs.Prelude.{◌≡◌, ℕ, List};
+ghost use Rattle.std.specs.Prelude.{◌≡◌, ℕ, List, [], option_map};
 ghost use Rattle.refusals.specs.Told.{Told, Among};
+
+use std::convert::Infallible;
 
 // A layer's faults, over the type of times. `numbers` are those that it can tell, and no case has another.
 pub trait Refusal<T> {
@@ -14,8 +16,25 @@ pub trait Refusal<T> {
 
     ghost numbers: { List ℕ };
 
-    fn number(&self) -> u8
-        ensures { result ≡ (told self.now).number };
+    // The number of a fault, if there is one: a type of faults may have no values, and then no fault is ever given.
+    fn number(fault: Option<&Self>) -> Option<u8>
+        ensures { result ≡ option_map (λ e. (told e.now).number) fault.entry };
 
     ghost listed: { (e : Self) → Among numbers (told e).number };
+}
+
+// What refuses nothing tells nothing.
+impl<T> Refusal<T> for Infallible {
+    ghost told = { λ e. elim e [ ] };
+
+    ghost numbers = { [] };
+
+    ghost listed = { λ e. elim e [ ] };
+
+    fn number(fault: Option<&Self>) -> Option<u8> {
+        match fault {
+            Some(e) => match *e {},
+            None => None,
+        }
+    }
 }

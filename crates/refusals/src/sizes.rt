@@ -1,8 +1,8 @@
 // Refusal 1: a size or a buffer's length is wrong.
-ghost use Rattle.std.specs.Prelude.{◌≡◌, [], ◌∷◌};
+ghost use Rattle.std.specs.Prelude.{◌≡◌, [], ◌∷◌, refl};
+ghost use Rattle.std.proofs.Common.{inl};
 ghost use Rattle.refusals.specs.Told.{size_told};
 ghost use Rattle.refusals.specs.Sizes.{first_wrong};
-ghost use Rattle.std.proofs.Common.{rules};
 
 use crate::Refusal;
 
@@ -47,10 +47,13 @@ impl<T> Refusal<T> for WrongSize {
 
     ghost numbers = { 1 ∷ [] };
 
-    ghost listed = { Prim.search rules };
+    ghost listed = { λ e. inl refl };
 
-    fn number(&self) -> u8 {
-        1
+    fn number(fault: Option<&Self>) -> Option<u8> {
+        match fault {
+            Some(_) => Some(1),
+            None => None,
+        }
     }
 }
 

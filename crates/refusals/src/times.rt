@@ -1,7 +1,7 @@
 // Refusal 2: a number that should be a time is none.
-ghost use Rattle.std.specs.Prelude.{[], ◌∷◌};
+ghost use Rattle.std.specs.Prelude.{[], ◌∷◌, refl};
+ghost use Rattle.std.proofs.Common.{inl};
 ghost use Rattle.refusals.specs.Told.{time_told};
-ghost use Rattle.std.proofs.Common.{rules};
 
 use crate::Refusal;
 
@@ -30,9 +30,12 @@ impl<T> Refusal<T> for NoTime {
 
     ghost numbers = { 2 ∷ [] };
 
-    ghost listed = { Prim.search rules };
+    ghost listed = { λ e. inl refl };
 
-    fn number(&self) -> u8 {
-        2
+    fn number(fault: Option<&Self>) -> Option<u8> {
+        match fault {
+            Some(_) => Some(2),
+            None => None,
+        }
     }
 }

@@ -2,7 +2,7 @@
 -- whole numbers under it. A table's rows end at a blank line or the end of the text, and before the names of a table any number of blank lines may stand. The
 -- text is read from top to bottom, and what is found first is told, with its line.
 use Rattle.std.specs.Prelude.{◌≡◌, ℕ, zero, suc, ◌+◌, ◌-◌, ◌*◌, ◌^◌, ◌<◌, ◌≤◌, min, Bool, false, cond, ◌||◌, ◌⊎◌, List, [], ◌∷◌, length, get_or, ℤ, pos, negsuc, ◌+ℤ◌, Ok, Err, Result, ◌==◌, slice_index_or, unsigned_abs}
-use Rattle.std.specs.List.{AllByRecursion as All}
+use Rattle.std.specs.List.{AllByRecursion}
 use Rattle.tables.specs.declared.faults.Wrong.TheVariants.{Extra, Order, NoCheckpoint, NoSettings}
 use Rattle.tables.specs.declared.faults.Part.TheVariants.{Checkpoints, Samples, Settings}
 use Rattle.tables.specs.declared.faults.Fault.{Fault}
@@ -82,7 +82,7 @@ Follows a b = (b ≡ a) ⊎ (b ≡ a +ℤ pos 1)
 
 -- no number is further from 0 than m
 abbrev pub Within : ℕ → List ℤ → Type 0
-Within m zs = All (λ z. unsigned_abs z ≤ m) zs
+Within m zs = AllByRecursion (λ z. unsigned_abs z ≤ m) zs
 
 -- what holds of every ride that is read: seven numbers to a checkpoint, of which there is one at least, two to a sample, five settings; the segments, the
 -- first number of each checkpoint, begin at 0, and each is the one before or the next; no number is too large

@@ -6,8 +6,8 @@ use Rattle.adjoint.specs.Sizes.{limits}
 use Rattle.adjoint.proofs.Fits.{is_made, rows_are}
 use Rattle.adjoint.proofs.jump.apply_delta_g.Goals as goal
 
-pub apply_delta_g_out-requires : goal.apply_delta_g_out-requires
-apply_delta_g_out-requires g c =
+pub jump_out-requires : goal.jump_out-requires
+jump_out-requires g c =
     let m = g.E.OdeEquations.model c.args.eqn.now in
     let n = c.args.channels in
     let w = c.args.work.now in

@@ -6,7 +6,7 @@ use Rattle.equations.specs.Model.{matrix_of}
 use Rattle.adjoint.specs.declared.lanes.Mode.TheVariants.{Lose}
 use Rattle.adjoint.specs.Lanes.{with_products}
 use Rattle.adjoint.proofs.Rules.{gather_ok, front_kept, both_written, jumps}
-use Rattle.adjoint.proofs.jump.apply_delta_g_out.Goals as goal
+use Rattle.adjoint.proofs.jump.jump_out.Goals as goal
 
 pub offset_bounds-v-mid : goal.offset_bounds-v-mid
 offset_bounds-v-mid g c = let e = ap (λ k. c.args.channels * k) c.requires.state in search rules
