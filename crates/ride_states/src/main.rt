@@ -11,6 +11,7 @@ use scalar::times::Finite64;
 use std::alloc::Global;
 use std::env;
 use std::io::{BufWriter, Read, Stdout, Write};
+use std::process::ExitCode;
 
 // Up to here an f64 holds every whole number exactly.
 const LARGEST: u64 = 9007199254740992;
@@ -74,12 +75,12 @@ fn run(rt: &HostRuntime) -> anyhow::Result<()> {
     Ok(())
 }
 
-fn main(rt: HostRuntime) -> anyhow::Result<()> {
+fn main(rt: HostRuntime) -> anyhow::Result<ExitCode> {
     match run(&rt) {
-        Ok(()) => Ok(()),
+        Ok(()) => Ok(ExitCode::SUCCESS),
         Err(e) => {
             eprintln!(rt; "ride-states: {e}")?;
-            Err(e)
+            Ok(ExitCode::FAILURE)
         }
     }
 }
