@@ -1,7 +1,7 @@
 -- The tables of a ride, and the first thing wrong with them. A text has three tables: checkpoints, samples and settings, each a line of names and rows of
 -- whole numbers under it. A table's rows end at a blank line or the end of the text, and before the names of a table any number of blank lines may stand. The
 -- text is read from top to bottom, and what is found first is told, with its line.
-use Rattle.std.specs.Prelude.{◌≡◌, ℕ, zero, suc, ◌+◌, ◌-◌, ◌*◌, ◌^◌, ◌<◌, ◌≤◌, min, Bool, false, cond, ◌||◌, ◌⊎◌, List, [], ◌∷◌, length, get_or, ℤ, pos, negsuc, ◌+ℤ◌, Ok, Err, Result, ◌==◌, slice_index_or, unsigned_abs}
+use Rattle.std.specs.Prelude.{◌≡◌, ℕ, zero, suc, ◌+◌, ◌-◌, ◌*◌, ◌^◌, ◌<◌, ◌≤◌, min, Bool, false, cond, ◌||◌, ◌⊎◌, List, [], ◌∷◌, length, ℤ, pos, negsuc, ◌+ℤ◌, Ok, Err, Result, ◌==◌, slice_index_or, unsigned_abs}
 use Rattle.std.specs.List.{AllByRecursion}
 use Rattle.tables.specs.declared.faults.Wrong.TheVariants.{Extra, Order, NoCheckpoint, NoSettings}
 use Rattle.tables.specs.declared.faults.Part.TheVariants.{Checkpoints, Samples, Settings}
@@ -90,6 +90,6 @@ pub record Sound (largest : ℕ) (said : Said) : Type 0 where
   pub sevens : (k : ℕ) × (1 ≤ k) × (length said.checkpoints ≡ 7 * k)
   pub pairs : (k : ℕ) × (length said.samples ≡ 2 * k)
   pub five : length said.settings ≡ 5
-  pub start : get_or said.checkpoints 0 (pos 0) ≡ pos 0
+  pub start : slice_index_or said.checkpoints 0 (pos 0) ≡ pos 0
   pub steps : (k : ℕ) → 7 * (k + 1) < length said.checkpoints → Follows (slice_index_or said.checkpoints (7 * k) (pos 0)) (slice_index_or said.checkpoints (7 * (k + 1)) (pos 0))
   pub small : Within largest said.checkpoints × Within largest said.samples × Within largest said.settings
