@@ -2,7 +2,7 @@
 use Rattle.std.specs.Prelude.{ℕ, Bool}
 
 -- `before`, `equal` and `at_most` are tests that may all fail, as at a NaN; `at_most` is no shorthand for the other two.
--- `whole n` is the kind's value nearest to n; `rootEps` stands for the square root of `eps`.
+-- `whole n` is the kind's value nearest to n; `root_eps` stands for the square root of `eps`.
 pub record Ops (N : Type 0) : Type 0 where
   pub plus : N → N → N
   pub minus : N → N → N
