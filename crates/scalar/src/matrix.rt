@@ -12,13 +12,11 @@ pub enum SizeFault {
     Matrix,
 }
 
-fn holds(entries: usize, rows: usize, columns: usize) -> bool
-    ensures { result ≡ (entries == rows * columns) }
+// Whether a matrix of so many rows and columns lies in the slice.
+pub fn fills<N: Scalar>(m: &[N], rows: usize, columns: usize) -> bool
+    ensures { result ≡ fills m.now rows columns }
 {
-    match rows.checked_mul(columns) {
-        Some(n) => entries == n,
-        None => false,
-    }
+    rows.checked_mul(columns) == Some(m.len())
 }
 
 fn fill_product<N: Scalar>(m: &[N], v: &[N], out: &mut [N])
@@ -37,7 +35,7 @@ pub fn product<N: Scalar>(m: &[N], v: &[N], out: &mut [N]) -> Result<(), SizeFau
     ensures answer { result ≡ (if fills m.now (length out.old) (length v.now) then Ok tt else Err Matrix) }
     ensures out { out.new ≡ (if fills m.now (length out.old) (length v.now) then product_of N.Scalar.kind.ops (row_by_row N.Scalar.kind.ops m.now (length v.now)) v.now (length out.old) else out.old) }
 {
-    if !holds(m.len(), out.len(), v.len()) {
+    if !fills(m, out.len(), v.len()) {
         return Err(SizeFault::Matrix);
     }
     fill_product(m, v, out);
@@ -79,7 +77,7 @@ pub fn minus_transposed_product<N: Scalar>(m: &[N], v: &[N], out: &mut [N]) -> R
     ensures answer { result ≡ (if fills m.now (length v.now) (length out.old) then Ok tt else Err Matrix) }
     ensures out { out.new ≡ (if fills m.now (length v.now) (length out.old) then minus_transposed N.Scalar.kind.ops (row_by_row N.Scalar.kind.ops m.now (length out.old)) v.now (length out.old) else out.old) }
 {
-    if !holds(m.len(), v.len(), out.len()) {
+    if !fills(m, v.len(), out.len()) {
         return Err(SizeFault::Matrix);
     }
     fill_minus_transposed(m, v, out);
