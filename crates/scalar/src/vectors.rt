@@ -26,29 +26,53 @@ pub fn dot<N: Scalar>(xs: &[N], ys: &[N]) -> N
     sum
 }
 
+// Replaces each y by f(y, x) at every place that both slices have.
+fn combine<N: Copy, F: Fn(N, N) -> N>(ys: &mut [N], xs: &[N], f: F)
+    requires { F.IsAlwaysCallable f }
+    ensures { (op : N → N → N) → ((y x r : N) → F.post f y x r → r ≡ op y x) → ys.new ≡ placewise op ys.old xs.now }
+{
+    for (i, y) in ys.iter_mut().enumerate() {
+        if let Some(x) = xs.get(i) {
+            *y = f(*y, *x);
+        }
+    }
+}
+
+fn plus<N: Scalar>(y: N, x: N) -> N
+    ensures { result ≡ N.Scalar.kind.ops.plus y x }
+{
+    y + x
+}
+
+fn minus<N: Scalar>(y: N, x: N) -> N
+    ensures { result ≡ N.Scalar.kind.ops.minus y x }
+{
+    y - x
+}
+
+fn plus_scaled<N: Scalar>(y: N, a: N, x: N) -> N
+    ensures { result ≡ scaling N.Scalar.kind.ops a y x }
+{
+    y + a * x
+}
+
 // ys := ys + xs
 pub fn add_assign<N: Scalar>(ys: &mut [N], xs: &[N])
     ensures { ys.new ≡ placewise N.Scalar.kind.ops.plus ys.old xs.now }
 {
-    for i in 0..ys.len().min(xs.len()) {
-        ys[i] = ys[i] + xs[i];
-    }
+    combine(ys, xs, plus);
 }
 
 // ys := ys - xs
 pub fn sub_assign<N: Scalar>(ys: &mut [N], xs: &[N])
     ensures { ys.new ≡ placewise N.Scalar.kind.ops.minus ys.old xs.now }
 {
-    for i in 0..ys.len().min(xs.len()) {
-        ys[i] = ys[i] - xs[i];
-    }
+    combine(ys, xs, minus);
 }
 
 // ys := ys + a·xs
 pub fn add_scaled<N: Scalar>(ys: &mut [N], a: N, xs: &[N])
     ensures { ys.new ≡ placewise (scaling N.Scalar.kind.ops a) ys.old xs.now }
 {
-    for i in 0..ys.len().min(xs.len()) {
-        ys[i] = ys[i] + a * xs[i];
-    }
+    combine(ys, xs, |y, x| plus_scaled(y, a, x));
 }

@@ -1,7 +1,0 @@
-use Rattle.std.proofs.Common.{◌≡◌}
-use Rattle.scalar.specs.Vectors.{placewise, scaling}
-use Rattle.scalar.proofs.Placewise.{partly}
-use Rattle.scalar.proofs.vectors.add_scaled.Given as goal
-
-abbrev pub invariant-loop-i : goal.invariant-loop-i
-invariant-loop-i g l = let f = scaling g.N.Scalar.kind.ops l.a in partly f l.ys l.xs l.i ≡ placewise f l.initial.ys l.xs
