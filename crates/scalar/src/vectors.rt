@@ -9,19 +9,20 @@ pub fn sum<N: Scalar>(xs: &[N]) -> N
     ensures { result ≡ sum_of N.Scalar.kind.ops xs.now }
 {
     let mut sum = N::whole(0);
-    for i in 0..xs.len() {
-        sum = sum + xs[i];
+    for x in xs {
+        sum = plus(sum, *x);
     }
     sum
 }
 
 // The sum of the products, in the same order.
+#[tactic(auto, unfolding(crate::specs::Vectors::dot_of))]
 pub fn dot<N: Scalar>(xs: &[N], ys: &[N]) -> N
     ensures { result ≡ dot_of N.Scalar.kind.ops xs.now ys.now }
 {
     let mut sum = N::whole(0);
-    for i in 0..xs.len().min(ys.len()) {
-        sum = sum + xs[i] * ys[i];
+    for (x, y) in xs.iter().zip(ys) {
+        sum = plus_scaled(sum, *x, *y);
     }
     sum
 }
