@@ -34,13 +34,21 @@ module _ {N : Type 0} (o : Ops N) where
   abbrev pub scaling : N → N → N → N
   scaling a y x = o.plus y (o.times a x)
 
-  -- the matrix whose entry (i, j) is `cell i j`, with n rows, times v
+  -- row i of the matrix whose entry (i, j) is `cell i j`, times v
+  abbrev pub row_times : (ℕ → ℕ → N) → List N → ℕ → N
+  row_times cell v i = sum_to (λ j. o.times (cell i j) (at v j)) (length v)
+
+  -- column j of it, times v
+  abbrev pub column_times : (ℕ → ℕ → N) → List N → ℕ → N
+  column_times cell v j = sum_to (λ i. o.times (cell i j) (at v i)) (length v)
+
+  -- the matrix, with n rows, times v
   unfoldable pub product : (ℕ → ℕ → N) → List N → ℕ → List N
-  product cell v n = map (λ i. sum_to (λ j. o.times (cell i j) (at v j)) (length v)) (range_with_len 0 n)
+  product cell v n = map (row_times cell v) (range_with_len 0 n)
 
   -- minus the transposed matrix, which has n columns, times v
   unfoldable pub minus_transposed : (ℕ → ℕ → N) → List N → ℕ → List N
-  minus_transposed cell v n = map (λ j. o.negated (sum_to (λ i. o.times (cell i j) (at v i)) (length v))) (range_with_len 0 n)
+  minus_transposed cell v n = map (λ j. o.negated (column_times cell v j)) (range_with_len 0 n)
 
   -- a matrix with w columns that lies row by row in a list
   abbrev pub row_by_row : List N → ℕ → ℕ → ℕ → N

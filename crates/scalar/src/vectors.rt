@@ -51,7 +51,7 @@ fn minus<N: Scalar>(y: N, x: N) -> N
     y - x
 }
 
-fn plus_scaled<N: Scalar>(y: N, a: N, x: N) -> N
+pub(crate) fn plus_scaled<N: Scalar>(y: N, a: N, x: N) -> N
     ensures { result ≡ scaling N.Scalar.kind.ops a y x }
 {
     y + a * x
