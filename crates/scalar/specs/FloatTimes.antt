@@ -6,6 +6,7 @@ use Rattle.std.specs.Float.{Format}
 use Rattle.std.specs.Float.Ieee.{le}
 use Rattle.std.proofs.lemmas.Bool.{both_ways}
 use Rattle.std.specs.Float as Floats
+use lib.Ieee.Bits.{is_true}
 use Rattle.scalar.specs.Kind.{Lawful}
 use Rattle.scalar.specs.Floats.{timed, float_ops, float_kind}
 use Rattle.scalar.specs.FloatOrder.{float_order}
@@ -28,10 +29,6 @@ module _ {M : Type 0} (make : (v : Float) → T (Floats.float_is_finite v) → M
 
   value_is : (v : Float) (t : M) → timed make v (Floats.float_is_finite v) refl ≡ Some t → value t ≡ v
   value_is v t e = value_at v t (Floats.float_is_finite v) refl e
-
-  is_true : (b : Bool) → T b → b ≡ true
-  is_true true h = refl
-  is_true false h = absurd h
 
   time_back : (t : M) → timed make (value t) (Floats.float_is_finite (value t)) refl ≡ Some t
   time_back t = sym (some_is t (value t) refl (Floats.float_is_finite (value t)) refl (is_true (Floats.float_is_finite (value t)) (ok t)))
