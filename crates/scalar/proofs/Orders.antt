@@ -1,5 +1,5 @@
 -- What a time is that is neither before nor equal.
-use Rattle.std.proofs.Common.{◌≡◌, Bool, false, T, ◌⊎◌, sym, inl, inr}
+use Rattle.std.proofs.Common.{◌≡◌, Bool, false, T, sym, inl, inr}
 use Rattle.std.proofs.lemmas.Bool.{both_ways}
 use lib.Ieee.Bits.{is_true}
 use Rattle.scalar.specs.Order.{Ordered}

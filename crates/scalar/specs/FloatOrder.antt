@@ -1,5 +1,5 @@
 -- Finite floats are in order, in both formats at once.
-use Rattle.std.specs.Prelude.{◌≡◌, Bool, true, false, T, Float}
+use Rattle.std.specs.Prelude.{◌≡◌, Bool, T, Float}
 use Rattle.std.proofs.Common.{◌⊎◌, inl, inr}
 use Rattle.std.specs.Float.Ieee.{lt, eq}
 use Rattle.std.specs.Float.{float_is_finite, NotNan, nan, inf, fin}
@@ -21,9 +21,9 @@ alike a b f g = both_ways a b (λ e. is_true b (f (T_from_true a e))) (λ e. is_
 
 some : (x y : Float) → T (float_is_finite x) → T (float_is_finite y) → T (lt x y) ⊎ (T (eq x y) ⊎ T (lt y x))
 some x y p q = elim (cases_Bool (lt x y)) [
-    inl e ↦ inl (T_from_true (lt x y) e)
+  | inl e ↦ inl (T_from_true (lt x y) e)
   | inr e ↦ elim (lt-or-eq y x (le_of_not-lt x y (not_nan x p) (not_nan y q) (T_from_false (lt x y) e))) [ inl l ↦ inr (inr l) | inr s ↦ inr (inl (eq_flip y x s)) ]
-  ]
+]
 
 -- any type of finite floats
 module _ {M : Type 0} (value : M → Float) (ok : (x : M) → T (float_is_finite (value x))) where

@@ -31,6 +31,8 @@ pub trait Scalar: Copy
     fn abs(self) -> Self
         ensures { result ≡ kind.ops.abs self };
 
+    // The three tests are the kind's own and not those of PartialOrd, whose laws make "at most" mean "before or equal": in a
+    // kind of ranges that fails, and all three may.
     fn before(self, other: Self) -> bool
         ensures { result ≡ kind.ops.before self other };
 
@@ -50,6 +52,7 @@ pub trait Scalar: Copy
     fn root_eps() -> Self
         ensures { result ≡ kind.ops.root_eps };
 
+    // These two are not TryFrom and From: every generic function would have to name the two bounds beside this one.
     fn time(self) -> Option<Self::Time>
         ensures { result ≡ kind.time self };
 

@@ -1,4 +1,5 @@
-// The order of times: that of their numbers.
+// The order of times: that of their numbers. These are functions of a kind, and no `impl Ord` for its times: that would be a
+// second order, to be proved alike with the first.
 ghost use Rattle.std.specs.Prelude.{◌≡◌, T};
 ghost use Rattle.std.specs.declared.cmp.Ordering.TheVariants.{Less, Equal, Greater};
 ghost use Rattle.scalar.specs.Kind.{before, equal};

@@ -6,6 +6,8 @@ pub mod binary64;
 ghost use Rattle.std.specs.Prelude.{T};
 ghost use Rattle.std.specs.Float as Floats;
 
+// Two types, and not one with the format as its parameter: that needs a trait which says what is finite in a format, an impl
+// of it for each, and Clone and Copy by hand, and is longer than the second type.
 #[derive(Clone, Copy)]
 pub struct Finite64 {
     value: f64,

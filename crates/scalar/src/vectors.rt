@@ -27,7 +27,8 @@ pub fn dot<N: Scalar>(xs: &[N], ys: &[N]) -> N
     sum
 }
 
-// Replaces each y by f(y, x) at every place that both slices have.
+// Replaces each y by f(y, x) at every place that both slices have. By place and not by `iter_mut().zip(xs)`, of which a
+// proof learns nothing about the elements that were written.
 fn combine<N: Copy, F: Fn(N, N) -> N>(ys: &mut [N], xs: &[N], f: F)
     requires { F.IsAlwaysCallable f }
     ensures { (op : N → N → N) → ((y x r : N) → F.post f y x r → r ≡ op y x) → ys.new ≡ placewise op ys.old xs.now }

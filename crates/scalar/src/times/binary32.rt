@@ -1,4 +1,5 @@
-// f32 as a number kind.
+// f32 as a number kind. This is the impl for f64 with other names: one impl for both would need a trait of the two formats
+// that has each of these members once more.
 ghost use Rattle.scalar.specs.Floats.{kind32};
 ghost use Rattle.std.specs.Prelude.{refl};
 ghost use Rattle.scalar.specs.FloatTimes.{float_lawful};
