@@ -32,9 +32,6 @@ impl<T> Refusal<T> for Infallible {
     ghost listed = { λ e. elim e [ ] };
 
     fn number(fault: Option<&Self>) -> Option<u8> {
-        match fault {
-            Some(e) => match *e {},
-            None => None,
-        }
+        fault.map(|e| match *e {})
     }
 }
