@@ -4,7 +4,7 @@ ghost use Rattle.equations.specs.Creep.{creep as creep_of, cells as cells_of, lo
 ghost use Rattle.equations.specs.declared.op.Op.TheVariants.{Rhs};
 
 use crate::op::{By, Op};
-use crate::pick::entry;
+use crate::entry::entry;
 use crate::{NoFault, OdeEquations};
 use scalar::Scalar;
 
@@ -15,16 +15,18 @@ pub struct Creep<'a, N> {
 }
 
 impl<'a, N: Scalar> Creep<'a, N> {
+    // A state for each parameter but the load.
     fn cells(&self) -> usize
         ensures { result ≡ cells_of N.Scalar.kind.ops self.now.parameters.now }
     {
         self.parameters.len().saturating_sub(1)
     }
 
+    // The last parameter, and zero where there is none.
     fn load(&self) -> N
         ensures { result ≡ load_of N.Scalar.kind.ops self.now.parameters.now }
     {
-        entry(self.parameters, self.cells())
+        self.parameters.last().copied().unwrap_or(N::whole(0))
     }
 
     // The rate of cell i; past the cells, zero.
@@ -50,17 +52,10 @@ impl<'a, N: Scalar> Creep<'a, N> {
         ensures { result ≡ derivatives N.Scalar.kind.ops self.now.parameters.now by x.now i }
     {
         match by {
-            By::State(j) => { if i == j { -self.rate(i) } else { N::whole(0) } }
-            By::Parameter(j) => {
-                if j == self.cells() {
-                    self.rate(i)
-                } else if i == j {
-                    self.load() - entry(x, i)
-                } else {
-                    N::whole(0)
-                }
-            }
-            By::Time => N::whole(0),
+            By::State(j) if j == i => -self.rate(i),
+            By::Parameter(j) if j == self.cells() => self.rate(i),
+            By::Parameter(j) if j == i => self.load() - entry(x, i),
+            _ => N::whole(0),
         }
     }
 }

@@ -6,7 +6,7 @@ pub mod creep;
 pub mod gather;
 pub mod layers;
 pub mod op;
-mod pick;
+mod entry;
 
 ghost use Rattle.std.specs.Prelude.{◌≡◌};
 ghost use Rattle.equations.specs.Model.{Model};
