@@ -4,8 +4,8 @@ ghost use Rattle.scalar.specs.Vectors.{at};
 ghost use Rattle.equations.specs.Contact.{contact as contact_of, values as values_of, by_state, by_parameter};
 ghost use Rattle.equations.specs.Model.{cell};
 
-use crate::op::{By, Op};
 use crate::entry::entry;
+use crate::op::{By, Op};
 use crate::{NoFault, OdeEquations};
 use scalar::Scalar;
 

@@ -3,8 +3,8 @@ ghost use Rattle.std.specs.Prelude.{◌≡◌};
 ghost use Rattle.equations.specs.Creep.{creep as creep_of, cells as cells_of, load as load_of, rate as rate_of, values as values_of, derivatives};
 ghost use Rattle.equations.specs.declared.op.Op.TheVariants.{Rhs};
 
-use crate::op::{By, Op};
 use crate::entry::entry;
+use crate::op::{By, Op};
 use crate::{NoFault, OdeEquations};
 use scalar::Scalar;
 
