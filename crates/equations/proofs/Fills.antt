@@ -1,5 +1,5 @@
 -- Cells that are filled one after the other.
-use Rattle.std.proofs.Common.{◌≡◌, ℕ, zero, suc, ◌+◌, ◌<◌, List, [], ◌∷◌, ◌++◌, length, take, drop, Ok, Err, Result, sym, refl, ap, subst, arith}
+use Rattle.std.proofs.Common.{◌≡◌, ℕ, zero, suc, ◌+◌, ◌<◌, List, [], ◌∷◌, ◌++◌, length, take, drop, Ok, Err, Result, refl, ap, arith}
 use Rattle.equations.specs.declared.op.Op.{Op}
 use Rattle.equations.specs.declared.op.Wrt.{Wrt}
 use Rattle.equations.specs.Model.{Model, Filled, step, filled_from, and_then, numbers_of, entries, gathered, matrix_of, Gathers}
@@ -23,11 +23,8 @@ module _ {N F : Type 0} where
   fill_gathers f k (o ∷ os) = one_more (f k) o os (filled_from f (k + 1) os) (numbers_of f (k + 1) (length os)) (fill_gathers f (k + 1) os)
 
 -- what `gathered` answers and leaves meets the law
-pub gathered_is : {N T F : Type 0} (m : Model N T F) (op : Op) (wrt : Wrt) (columns : ℕ) (t : T) (x out : List N) (r : Result (Unit {0}) F) (cells : List N)
+pub gathered_meets : {N T F : Type 0} (m : Model N T F) (op : Op) (wrt : Wrt) (columns : ℕ) (t : T) (x out : List N) (r : Result (Unit {0}) F) (cells : List N)
     → 0 < columns → r ≡ (gathered m op wrt columns t x out).answer → cells ≡ (gathered m op wrt columns t x out).cells
     → Gathers (matrix_of m op wrt columns t x (length out)) r cells
-gathered_is m op wrt zero t x out r cells h p q = absurd (omega arith)
-gathered_is {N = N} {F = F} m op wrt (suc c) t x out r cells h p q =
-    let told = matrix_of m op wrt (suc c) t x (length out) in
-    subst (λ (a : Result (Unit {0}) F). Gathers told a cells) (sym p)
-    (subst (λ (vs : List N). Gathers told (gathered m op wrt (suc c) t x out).answer vs) (sym q) (fill_gathers (entries m op wrt (suc c) t x) 0 out))
+gathered_meets m op wrt zero t x out r cells h p q = absurd (omega arith)
+gathered_meets m op wrt (suc c) t x out r cells h p q = rw (p, q) (fill_gathers (entries m op wrt (suc c) t x) 0 out)

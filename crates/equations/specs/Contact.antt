@@ -35,10 +35,8 @@ module _ {N : Type 0} (o : Ops N) (pad : Contact N) where
   -- by k, c, g and b; an entry that is not written is zero
   abbrev pub by_parameter : Op → N → N → List (List N)
   by_parameter Rhs z v = [] ∷ (o.negated z ∷ o.negated v ∷ o.negated one ∷ none ∷ []) ∷ []
-  by_parameter Out z v = []
-  by_parameter Root z v = []
   by_parameter Reset z v = [] ∷ (none ∷ none ∷ none ∷ o.negated v ∷ []) ∷ []
-  by_parameter Init z v = []
+  by_parameter _ z v = []
 
   abbrev pub derivatives : Op → By → N → N → ℕ → N
   derivatives op (State j) z v i = cell o (by_state op) i j

@@ -17,21 +17,21 @@ pub struct Creep<'a, N> {
 impl<'a, N: Scalar> Creep<'a, N> {
     // A state for each parameter but the load.
     fn cells(&self) -> usize
-        ensures { result ≡ cells_of N.Scalar.kind.ops self.now.parameters.now }
+        ensures { result ≡ cells_of N.Scalar.kind.ops self.now }
     {
         self.parameters.len().saturating_sub(1)
     }
 
     // The last parameter, and zero where there is none.
     fn load(&self) -> N
-        ensures { result ≡ load_of N.Scalar.kind.ops self.now.parameters.now }
+        ensures { result ≡ load_of N.Scalar.kind.ops self.now }
     {
         self.parameters.last().copied().unwrap_or(N::whole(0))
     }
 
     // The rate of cell i; past the cells, zero.
     fn rate(&self, i: usize) -> N
-        ensures { result ≡ rate_of N.Scalar.kind.ops self.now.parameters.now i }
+        ensures { result ≡ rate_of N.Scalar.kind.ops self.now i }
     {
         if i < self.cells() {
             entry(self.parameters, i)
@@ -42,14 +42,14 @@ impl<'a, N: Scalar> Creep<'a, N> {
 
     // Component i of the right-hand side.
     fn slope(&self, x: &[N], i: usize) -> N
-        ensures { result ≡ values_of N.Scalar.kind.ops self.now.parameters.now Rhs x.now i }
+        ensures { result ≡ values_of N.Scalar.kind.ops self.now Rhs x.now i }
     {
         self.rate(i) * (self.load() - entry(x, i))
     }
 
     // The derivatives of the right-hand side.
     fn slope_by(&self, by: By, x: &[N], i: usize) -> N
-        ensures { result ≡ derivatives N.Scalar.kind.ops self.now.parameters.now by x.now i }
+        ensures { result ≡ derivatives N.Scalar.kind.ops self.now by x.now i }
     {
         match by {
             By::State(j) if j == i => -self.rate(i),
@@ -63,7 +63,7 @@ impl<'a, N: Scalar> Creep<'a, N> {
 impl<'a, N: Scalar> OdeEquations<N> for Creep<'a, N> {
     type Fault = NoFault;
 
-    ghost model = { λ m. creep_of N.Scalar.kind.ops m.parameters.now };
+    ghost model = { λ foam. creep_of N.Scalar.kind.ops foam };
 
     fn nstates(&self) -> usize {
         self.cells()
