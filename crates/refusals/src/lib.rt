@@ -31,7 +31,7 @@ impl<T> Refusal<T> for Infallible {
 
     ghost listed = { λ e. elim e [ ] };
 
-    fn number(fault: Option<&Self>) -> Option<u8> {
-        fault.map(|e| match *e {})
+    fn number(_fault: Option<&Self>) -> Option<u8> {
+        None
     }
 }
