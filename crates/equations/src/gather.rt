@@ -6,9 +6,9 @@ use crate::OdeEquations;
 use crate::op::{Op, Wrt};
 use scalar::Scalar;
 
-#[tactic(auto, using(crate::proofs::Fills::gathered_meets, std::proofs::lemmas::Grind::common_steps))]
 // Fills `out` with the matrix that has so many columns, row by row. At a refusal the places before it are filled and the
 // others stay.
+#[tactic(auto, using(crate::proofs::Fills::gathered_meets, std::proofs::lemmas::Grind::common_steps))]
 pub fn gather<N: Scalar, E: OdeEquations<N>>(
     eqn: &E,
     op: Op,
