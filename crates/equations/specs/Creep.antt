@@ -2,14 +2,18 @@
 use Rattle.std.specs.Prelude.{ℕ, ◌-◌, false, cond, List, length, None, Ok, ◌==◌, nat_lt}
 use Rattle.scalar.specs.Ops.{Ops}
 use Rattle.scalar.specs.Vectors.{at}
+use Rattle.equations.specs.declared.creep.Creep.{Creep}
 use Rattle.equations.specs.declared.op.Op.{Op}
-use Rattle.equations.specs.declared.op.Op.TheVariants.{Rhs, Out, Root, Reset, Init}
+use Rattle.equations.specs.declared.op.Op.TheVariants.{Rhs}
 use Rattle.equations.specs.declared.op.By.{By}
 use Rattle.equations.specs.declared.op.By.TheVariants.{State, Parameter, Time}
 use Rattle.std.specs.declared.convert.Infallible.{Infallible}
 use Rattle.equations.specs.Model.{Model}
 
-module _ {N : Type 0} (o : Ops N) (p : List N) where
+module _ {N : Type 0} (o : Ops N) (foam : Creep N) where
+  abbrev p : List N
+  p = foam.parameters.now
+
   -- one state for each parameter but the last, which is the load
   abbrev pub cells : ℕ
   cells = length p - 1
@@ -23,10 +27,7 @@ module _ {N : Type 0} (o : Ops N) (p : List N) where
 
   abbrev pub values : Op → List N → ℕ → N
   values Rhs x i = o.times (rate i) (o.minus load (at o x i))
-  values Out x i = o.whole 0
-  values Root x i = o.whole 0
-  values Reset x i = o.whole 0
-  values Init x i = o.whole 0
+  values _ x i = o.whole 0
 
   -- of component i of the right-hand side: by x_i, by a_i and by the load, and zero by every other
   abbrev pub derivatives : By → List N → ℕ → N
@@ -36,10 +37,7 @@ module _ {N : Type 0} (o : Ops N) (p : List N) where
 
   abbrev pub derivative : Op → By → List N → ℕ → N
   derivative Rhs by x i = derivatives by x i
-  derivative Out by x i = o.whole 0
-  derivative Root by x i = o.whole 0
-  derivative Reset by x i = o.whole 0
-  derivative Init by x i = o.whole 0
+  derivative _ by x i = o.whole 0
 
   abbrev pub creep : {T : Type 0} → Model N T Infallible
   creep = record {

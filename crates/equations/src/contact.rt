@@ -4,8 +4,8 @@ ghost use Rattle.scalar.specs.Vectors.{at};
 ghost use Rattle.equations.specs.Contact.{contact as contact_of, values as values_of, by_state, by_parameter};
 ghost use Rattle.equations.specs.Model.{cell};
 
+use crate::entry::entry;
 use crate::op::{By, Op};
-use crate::pick::{entry, pick2, pick4};
 use crate::{NoFault, OdeEquations};
 use scalar::Scalar;
 
@@ -18,43 +18,43 @@ pub struct Contact<N> {
 }
 
 impl<N: Scalar> Contact<N> {
+    // Component i of a function, and zero past its last.
     fn component(&self, op: Op, z: N, v: N, i: usize) -> N
-        ensures { result ≡ at N.Scalar.kind.ops (values_of N.Scalar.kind.ops self.now.k self.now.c self.now.g self.now.b op z v) i }
+        ensures { result ≡ at N.Scalar.kind.ops (values_of N.Scalar.kind.ops self.now op z v) i }
     {
-        let zero = N::whole(0);
-        match op {
-            Op::Rhs => pick2(i, v, -(self.k * z) - self.c * v - self.g),
-            Op::Out => pick2(i, z, zero),
-            Op::Root => pick2(i, z, zero),
-            Op::Reset => pick2(i, z, -(self.b * v)),
-            Op::Init => zero,
+        match (op, i) {
+            (Op::Rhs, 0) => v,
+            (Op::Rhs, 1) => -(self.k * z) - self.c * v - self.g,
+            (Op::Out | Op::Root | Op::Reset, 0) => z,
+            (Op::Reset, 1) => -(self.b * v),
+            _ => N::whole(0),
         }
     }
 
+    // The derivative of component i by z (j 0) or v (j 1).
     fn by_state(&self, op: Op, i: usize, j: usize) -> N
-        ensures { result ≡ cell N.Scalar.kind.ops (by_state N.Scalar.kind.ops self.now.k self.now.c self.now.g self.now.b op) i j }
+        ensures { result ≡ cell N.Scalar.kind.ops (by_state N.Scalar.kind.ops self.now op) i j }
     {
-        let zero = N::whole(0);
-        let one = N::whole(1);
-        match op {
-            Op::Rhs => pick2(i, pick2(j, zero, one), pick2(j, -self.k, -self.c)),
-            Op::Out => pick2(i, pick2(j, one, zero), zero),
-            Op::Root => pick2(i, pick2(j, one, zero), zero),
-            Op::Reset => pick2(i, pick2(j, one, zero), pick2(j, zero, -self.b)),
-            Op::Init => zero,
+        match (op, i, j) {
+            (Op::Rhs, 0, 1) => N::whole(1),
+            (Op::Rhs, 1, 0) => -self.k,
+            (Op::Rhs, 1, 1) => -self.c,
+            (Op::Out | Op::Root | Op::Reset, 0, 0) => N::whole(1),
+            (Op::Reset, 1, 1) => -self.b,
+            _ => N::whole(0),
         }
     }
 
+    // The derivative of component i by k, c, g or b (j 0 to 3).
     fn by_parameter(&self, op: Op, z: N, v: N, i: usize, j: usize) -> N
-        ensures { result ≡ cell N.Scalar.kind.ops (by_parameter N.Scalar.kind.ops self.now.k self.now.c self.now.g self.now.b op z v) i j }
+        ensures { result ≡ cell N.Scalar.kind.ops (by_parameter N.Scalar.kind.ops self.now op z v) i j }
     {
-        let zero = N::whole(0);
-        match op {
-            Op::Rhs => pick2(i, zero, pick4(j, -z, -v, -N::whole(1), zero)),
-            Op::Out => zero,
-            Op::Root => zero,
-            Op::Reset => pick2(i, zero, pick4(j, zero, zero, zero, -v)),
-            Op::Init => zero,
+        match (op, i, j) {
+            (Op::Rhs, 1, 0) => -z,
+            (Op::Rhs, 1, 1) => -v,
+            (Op::Rhs, 1, 2) => -N::whole(1),
+            (Op::Reset, 1, 3) => -v,
+            _ => N::whole(0),
         }
     }
 }
@@ -62,7 +62,7 @@ impl<N: Scalar> Contact<N> {
 impl<N: Scalar> OdeEquations<N> for Contact<N> {
     type Fault = NoFault;
 
-    ghost model = { λ m. contact_of N.Scalar.kind.ops m.k m.c m.g m.b };
+    ghost model = { λ pad. contact_of N.Scalar.kind.ops pad };
 
     fn nstates(&self) -> usize {
         2

@@ -3,8 +3,8 @@ ghost use Rattle.std.specs.Prelude.{◌≡◌};
 ghost use Rattle.equations.specs.Creep.{creep as creep_of, cells as cells_of, load as load_of, rate as rate_of, values as values_of, derivatives};
 ghost use Rattle.equations.specs.declared.op.Op.TheVariants.{Rhs};
 
+use crate::entry::entry;
 use crate::op::{By, Op};
-use crate::pick::entry;
 use crate::{NoFault, OdeEquations};
 use scalar::Scalar;
 
@@ -15,21 +15,23 @@ pub struct Creep<'a, N> {
 }
 
 impl<'a, N: Scalar> Creep<'a, N> {
+    // A state for each parameter but the load.
     fn cells(&self) -> usize
-        ensures { result ≡ cells_of N.Scalar.kind.ops self.now.parameters.now }
+        ensures { result ≡ cells_of N.Scalar.kind.ops self.now }
     {
         self.parameters.len().saturating_sub(1)
     }
 
+    // The last parameter, and zero where there is none.
     fn load(&self) -> N
-        ensures { result ≡ load_of N.Scalar.kind.ops self.now.parameters.now }
+        ensures { result ≡ load_of N.Scalar.kind.ops self.now }
     {
-        entry(self.parameters, self.cells())
+        self.parameters.last().copied().unwrap_or(N::whole(0))
     }
 
     // The rate of cell i; past the cells, zero.
     fn rate(&self, i: usize) -> N
-        ensures { result ≡ rate_of N.Scalar.kind.ops self.now.parameters.now i }
+        ensures { result ≡ rate_of N.Scalar.kind.ops self.now i }
     {
         if i < self.cells() {
             entry(self.parameters, i)
@@ -40,27 +42,20 @@ impl<'a, N: Scalar> Creep<'a, N> {
 
     // Component i of the right-hand side.
     fn slope(&self, x: &[N], i: usize) -> N
-        ensures { result ≡ values_of N.Scalar.kind.ops self.now.parameters.now Rhs x.now i }
+        ensures { result ≡ values_of N.Scalar.kind.ops self.now Rhs x.now i }
     {
         self.rate(i) * (self.load() - entry(x, i))
     }
 
     // The derivatives of the right-hand side.
     fn slope_by(&self, by: By, x: &[N], i: usize) -> N
-        ensures { result ≡ derivatives N.Scalar.kind.ops self.now.parameters.now by x.now i }
+        ensures { result ≡ derivatives N.Scalar.kind.ops self.now by x.now i }
     {
         match by {
-            By::State(j) => { if i == j { -self.rate(i) } else { N::whole(0) } }
-            By::Parameter(j) => {
-                if j == self.cells() {
-                    self.rate(i)
-                } else if i == j {
-                    self.load() - entry(x, i)
-                } else {
-                    N::whole(0)
-                }
-            }
-            By::Time => N::whole(0),
+            By::State(j) if j == i => -self.rate(i),
+            By::Parameter(j) if j == self.cells() => self.rate(i),
+            By::Parameter(j) if j == i => self.load() - entry(x, i),
+            _ => N::whole(0),
         }
     }
 }
@@ -68,7 +63,7 @@ impl<'a, N: Scalar> Creep<'a, N> {
 impl<'a, N: Scalar> OdeEquations<N> for Creep<'a, N> {
     type Fault = NoFault;
 
-    ghost model = { λ m. creep_of N.Scalar.kind.ops m.parameters.now };
+    ghost model = { λ foam. creep_of N.Scalar.kind.ops foam };
 
     fn nstates(&self) -> usize {
         self.cells()

@@ -1,6 +1,7 @@
-// Layers over any model, each a model again.
+// Layers over any model, each a model again. What a layer leaves as it is, it hands on method by method: Rust has no
+// shorter form.
 ghost use Rattle.std.specs.Prelude.{◌≡◌};
-ghost use Rattle.equations.specs.Layers.{weighted, zeroed, on_out, if_any};
+ghost use Rattle.equations.specs.Layers.{weighted, zeroed, if_any};
 
 use crate::OdeEquations;
 use crate::op::{By, Op};
@@ -20,19 +21,7 @@ pub struct Zeroed<E> {
     pub eqn: E,
 }
 
-fn weigh<N: Scalar, F>(op: Op, answer: Result<N, F>, w: N) -> Result<N, F>
-    ensures { result ≡ on_out N.Scalar.kind.ops w op answer }
-{
-    match op {
-        Op::Out => match answer {
-            Ok(x) => Ok(x * w),
-            Err(e) => Err(e),
-        },
-        _ => answer,
-    }
-}
-
-// What is said of the outputs, where there are any, times w.
+// An answer about the outputs times w, where there are outputs; every other as it is.
 fn weigh_outputs<N: Scalar, F>(
     outputs: Option<usize>,
     op: Op,
@@ -41,9 +30,9 @@ fn weigh_outputs<N: Scalar, F>(
 ) -> Result<N, F>
     ensures { result ≡ if_any N.Scalar.kind.ops outputs w op answer }
 {
-    match outputs {
-        None => answer,
-        Some(_) => weigh(op, answer, w),
+    match (outputs, op) {
+        (Some(_), Op::Out) => answer.map(|x| x * w),
+        _ => answer,
     }
 }
 
@@ -113,11 +102,9 @@ impl<N: Scalar, E: OdeEquations<N>> OdeEquations<N> for Zeroed<E> {
     }
 
     fn derivative(&self, op: Op, by: By, t: N::Time, x: &[N], i: usize) -> Result<N, E::Fault> {
-        if let By::Parameter(j) = by {
-            if j < self.columns {
-                return Ok(N::whole(0));
-            }
+        match by {
+            By::Parameter(j) if j < self.columns => Ok(N::whole(0)),
+            _ => self.eqn.derivative(op, by, t, x, i),
         }
-        self.eqn.derivative(op, by, t, x, i)
     }
 }

@@ -3,10 +3,10 @@
 
 pub mod contact;
 pub mod creep;
+mod entry;
 pub mod gather;
 pub mod layers;
 pub mod op;
-mod pick;
 
 ghost use Rattle.std.specs.Prelude.{◌≡◌};
 ghost use Rattle.equations.specs.Model.{Model};

@@ -1,4 +1,6 @@
 // The functions of a model, and what a derivative is taken by.
+ghost use Rattle.std.specs.Prelude.{◌≡◌};
+ghost use Rattle.equations.specs.Model.{column as column_of};
 
 #[derive(Clone, Copy)]
 pub enum Op {
@@ -28,4 +30,17 @@ pub enum Wrt {
     Parameters,
     // one column
     TimeOnly,
+}
+
+impl Wrt {
+    // What column j stands for.
+    pub(crate) fn column(self, j: usize) -> By
+        ensures { result ≡ column_of self j }
+    {
+        match self {
+            Wrt::States => By::State(j),
+            Wrt::Parameters => By::Parameter(j),
+            Wrt::TimeOnly => By::Time,
+        }
+    }
 }

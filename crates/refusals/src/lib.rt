@@ -31,10 +31,7 @@ impl<T> Refusal<T> for Infallible {
 
     ghost listed = { λ e. elim e [ ] };
 
-    fn number(fault: Option<&Self>) -> Option<u8> {
-        match fault {
-            Some(e) => match *e {},
-            None => None,
-        }
+    fn number(_fault: Option<&Self>) -> Option<u8> {
+        None
     }
 }

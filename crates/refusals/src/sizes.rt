@@ -50,10 +50,7 @@ impl<T> Refusal<T> for WrongSize {
     ghost listed = { λ e. inl refl };
 
     fn number(fault: Option<&Self>) -> Option<u8> {
-        match fault {
-            Some(_) => Some(1),
-            None => None,
-        }
+        fault.map(|_| 1)
     }
 }
 

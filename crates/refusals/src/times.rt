@@ -33,9 +33,6 @@ impl<T> Refusal<T> for NoTime {
     ghost listed = { λ e. inl refl };
 
     fn number(fault: Option<&Self>) -> Option<u8> {
-        match fault {
-            Some(_) => Some(2),
-            None => None,
-        }
+        fault.map(|_| 2)
     }
 }
