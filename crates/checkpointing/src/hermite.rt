@@ -73,7 +73,7 @@ pub(crate) fn fill_between<N: Scalar>(a: &[N], b: &[N], t: N, out: &mut [N])
 {
     let dim = out.len();
     let w = Weights::between(a[0], b[0], t);
-    for i in 0..dim {
-        out[i] = w.value(a[1 + i], a[1 + dim + i], b[1 + i], b[1 + dim + i]);
+    for (i, x) in out.iter_mut().enumerate() {
+        *x = w.value(a[1 + i], a[1 + dim + i], b[1 + i], b[1 + dim + i]);
     }
 }

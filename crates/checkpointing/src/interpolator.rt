@@ -97,11 +97,12 @@ impl<'a, N: Scalar> HermiteInterpolator<'a, N> {
         requires { 1 < self.now.count }
         ensures { result ≡ min (last_not_after N.Scalar.kind.ops (knot_at N.Scalar.kind.ops self.now.dim self.now.rows.now) t self.now.count) (self.now.count - 2) }
     {
-        let mut n = self.count;
-        while n > 1 && t.before(self.time(n - 1)) {
-            n -= 1;
+        for k in (1..self.count).rev() {
+            if !t.before(self.time(k)) {
+                return k.min(self.count - 2);
+            }
         }
-        (n - 1).min(self.count - 2)
+        0
     }
 
     // t lies before the first knot or after the last.
