@@ -1,7 +1,7 @@
 use Rattle.std.proofs.Common.{◌≡◌, ◌-◌, min, true, false, sym, ap, ◌∙◌, arith, rules}
-use Rattle.checkpointing.specs.Knots.{knot_at, last_not_after}
+use Rattle.checkpointing.specs.Knots.{knot_at}
 use Rattle.checkpointing.proofs.LookUps.{passed, stopped}
-use Rattle.checkpointing.proofs.interpolator.HermiteInterpolator.lower.Goals as goal
+use Rattle.checkpointing.proofs.list.HermiteInterpolator.lower.Goals as goal
 
 pub returns-then-not-before : goal.returns-then-not-before
 returns-then-not-before g c =

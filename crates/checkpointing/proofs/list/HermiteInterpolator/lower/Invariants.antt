@@ -1,6 +1,6 @@
 use Rattle.std.proofs.Common.{◌≡◌, ◌≤◌}
 use Rattle.checkpointing.specs.Knots.{knot_at, last_not_after}
-use Rattle.checkpointing.proofs.interpolator.HermiteInterpolator.lower.Given as goal
+use Rattle.checkpointing.proofs.list.HermiteInterpolator.lower.Given as goal
 
 abbrev pub invariant-loop-k : goal.invariant-loop-k
 invariant-loop-k g l =
