@@ -1,10 +1,11 @@
 -- Looking a time up in knots.
-use Rattle.std.proofs.Common.{◌≡◌, ℕ, zero, suc, ◌+◌, ◌-◌, ◌<◌, min, Bool, true, false, cond, ◌||◌, ◌≢◌, List, map, Some, None, Option, sym, refl, ap, ◌∙◌, arith}
+use Rattle.std.proofs.Common.{◌≡◌, ℕ, zero, suc, ◌+◌, ◌-◌, ◌<◌, min, true, false, cond, ◌||◌, ◌≢◌, List, map, is_some, unwrap_or, Some, None, Option, sym, subst, refl, ap, ◌∙◌, arith}
 use Rattle.std.specs.List.{range_with_len}
 use Rattle.std.proofs.lemmas.List.FromFn.{get_or-map-range_with_len, length-map-range_with_len}
 use Rattle.std.proofs.lemmas.Bool.{eq-eqb, ne_eqb}
 use Rattle.scalar.specs.Ops.{Ops}
 use Rattle.checkpointing.specs.Knots.{Knot, between, last_not_after, around, asked, nth, look_up, answer}
+use Rattle.checkpointing.specs.Held.{Fills}
 
 module _ {N : Type 0} (o : Ops N) where
   -- one knot less, where the last one lies after t
@@ -19,13 +20,6 @@ module _ {N : Type 0} (o : Ops N) where
   stopped K t (suc n) h e =
       let s : suc n - 1 ≡ n = omega arith in
       ap (λ m. cond (o.before t (K m).t) (last_not_after o K t n) n) (sym s) ∙ ap (λ b. cond b (last_not_after o K t n) n) e ∙ sym s
-
-  pub at_first : (K : ℕ → Knot N) (t : N) (n : ℕ) → n ≡ 1 → last_not_after o K t n ≡ n - 1
-  at_first K t n e = ap (last_not_after o K t) e ∙ one (o.before t (K 0).t) ∙ sym (omega arith)
-    where
-      one : (b : Bool) → ◌≡◌ {A = ℕ} (cond b 0 0) 0
-      one true = refl
-      one false = refl
 
   -- knots that are alike below n answer alike
   module _ (K L : ℕ → Knot N) (t : N) where
@@ -104,3 +98,14 @@ module _ {N : Type 0} (o : Ops N) where
 
     pub answer_other : (dim n : ℕ) (ks : List (Knot N)) → n ≢ dim → answer o dim ks n t ≡ None
     answer_other dim n ks h = ap (λ b. cond b (look_up o ks t) None) (ne_eqb n dim h)
+
+-- what a list that is asked does, where its answer is known
+pub finds : {N : Type 0} (a : Option (List N)) (x old new : List N) → a ≡ Some x → new ≡ x → Fills a (Some tt) old new
+finds {N = N} a x old new e h = subst (λ (b : Option (List N)). Fills b (Some tt) old new) (sym e) (refl, h)
+
+pub finds_none : {N : Type 0} (a : Option (List N)) (old : List N) → a ≡ None → Fills a None old old
+finds_none {N = N} a old e = subst (λ (b : Option (List N)). Fills b None old old) (sym e) (refl, refl)
+
+pub fills_says : {N : Type 0} (a : Option (List N)) (r : Option (Unit {0})) (old new : List N) → Fills a r old new → (is_some r ≡ is_some a) × (new ≡ unwrap_or a old)
+fills_says None r old new h = (ap is_some h.0, h.1)
+fills_says (Some u) r old new h = (ap is_some h.0, h.1)

@@ -1,10 +1,9 @@
 -- One knot more, in the row after the others.
-use Rattle.std.proofs.Common.{◌≡◌, ℕ, zero, suc, ◌+◌, ◌-◌, ◌*◌, ◌<◌, ◌≤◌, true, ◌&&◌, eqb, leb, List, [], ◌∷◌, ◌++◌, map, length, take, drop, sym, refl, ap, ◌∙◌, add-mul, arith}
+use Rattle.std.proofs.Common.{◌≡◌, ℕ, zero, suc, ◌+◌, ◌-◌, ◌*◌, ◌<◌, ◌≤◌, List, [], ◌∷◌, ◌++◌, map, length, take, drop, refl, ap, ◌∙◌, arith}
 use lib.Seq.{paste}
 use Rattle.std.specs.List.{range_with_len}
 use Rattle.std.proofs.lemmas.List.{take_at, drop_at, take_all, take-append-le, drop-append-le, take-take, drop-take, length-take-le, length-append, length-drop, append_assoc}
 use Rattle.std.proofs.lemmas.List.FromFn.{map-range_with_len_more}
-use Rattle.std.proofs.lemmas.Bool.{eq-eqb, le-leb}
 use Rattle.scalar.specs.Ops.{Ops}
 use Rattle.scalar.proofs.Rows.{row_within}
 use Rattle.checkpointing.specs.Knots.{knot_of, row_at, knot_at, knots}
@@ -56,9 +55,3 @@ module _ {N : Type 0} (o : Ops N) (dim : ℕ) where
       map-range_with_len_more (knot_at o dim new) 0 n n (omega arith)
       ∙ ap (λ x. map (knot_at o dim new) (range_with_len 0 n) ++ x ∷ []) (ap (knot_of o dim) (row_new rows row n w long room) ∙ made t u f p)
       ∙ ap (λ xs. xs ++ record { t = t; u = u; f = f } ∷ []) (map_alike (knot_at o dim new) (knot_at o dim rows) 0 n (λ k h. ap (knot_of o dim) (row_old rows row n w long room k (omega arith))))
-
--- that the three tests pass
-pub passes : (a b d n w l : ℕ) → a ≡ d → b ≡ d → n * w + w ≤ l → true ≡ (eqb a d && (eqb b d && leb ((n + 1) * w) l))
-passes a b d n w l p q h =
-    let e : (n + 1) * w ≤ l = omega (arith, add-mul n 1 w) in
-    sym (ap (λ x. x && (eqb b d && leb ((n + 1) * w) l)) (eq-eqb a d p) ∙ ap (λ x. x && leb ((n + 1) * w) l) (eq-eqb b d q) ∙ le-leb ((n + 1) * w) l e)

@@ -1,3 +1,4 @@
 pub mod Knots
 pub mod Weights
 pub mod Segments
+pub mod Held

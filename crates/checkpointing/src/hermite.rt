@@ -66,14 +66,22 @@ pub fn hermite<N: Scalar>(a: Knot<N>, b: Knot<N>, t: N) -> N
     Weights::between(a.t, b.t, t).value(a.u, a.f, b.u, b.f)
 }
 
-// The state at t between two knots, each a row with its time, its state and its slope.
-pub(crate) fn fill_between<N: Scalar>(a: &[N], b: &[N], t: N, out: &mut [N])
-    requires { (length a.now ≡ 1 + 2 * length out.old) × (length b.now ≡ 1 + 2 * length out.old) }
-    ensures { out.new ≡ between N.Scalar.kind.ops (knot_of N.Scalar.kind.ops (length out.old) a.now) (knot_of N.Scalar.kind.ops (length out.old) b.now) t }
+// A knot of a list: its time, and its state and slope where they lie.
+#[derive(Clone, Copy)]
+pub(crate) struct Row<'a, N> {
+    pub(crate) t: N,
+    pub(crate) u: &'a [N],
+    pub(crate) f: &'a [N],
+}
+
+// The state at t between two knots.
+pub(crate) fn fill_between<N: Scalar>(a: Row<N>, b: Row<N>, t: N, out: &mut [N])
+    requires first { (length a.u.now ≡ length out.old) × (length a.f.now ≡ length out.old) }
+    requires second { (length b.u.now ≡ length out.old) × (length b.f.now ≡ length out.old) }
+    ensures { out.new ≡ between N.Scalar.kind.ops (record { t = a.entry.t; u = a.entry.u.now; f = a.entry.f.now }) (record { t = b.entry.t; u = b.entry.u.now; f = b.entry.f.now }) t }
 {
-    let dim = out.len();
-    let w = Weights::between(a[0], b[0], t);
-    for i in 0..dim {
-        out[i] = w.value(a[1 + i], a[1 + dim + i], b[1 + i], b[1 + dim + i]);
+    let w = Weights::between(a.t, b.t, t);
+    for (i, x) in out.iter_mut().enumerate() {
+        *x = w.value(a.u[i], a.f[i], b.u[i], b.f[i]);
     }
 }

@@ -3,4 +3,5 @@
 
 pub mod hermite;
 pub mod interpolator;
+mod list;
 pub mod segments;

@@ -17,9 +17,7 @@ pub fn segment_of<N: Scalar>(ends: &[(N::Time, N::Time)], t: N::Time) -> Option<
     ensures answer { result ≡ segment_of N.Scalar.kind ends.now t }
     ensures last { Last N.Scalar.kind ends.now t (length ends.now) result }
 {
-    let mut n = ends.len();
-    while n > 0 {
-        n -= 1;
+    for n in (0..ends.len()).rev() {
         let (first, end) = ends[n];
         if belongs::<N>(n + 1 == ends.len(), first, end, t) {
             return Some(n);

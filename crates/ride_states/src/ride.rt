@@ -82,9 +82,6 @@ pub(crate) fn state_at(
             let _ = knots.push(p.t, &p.state, &p.slope);
         }
     }
-    Ok(if knots.interpolate(t, &mut out) {
-        Some(out)
-    } else {
-        None
-    })
+    let found = knots.interpolate(t, &mut out);
+    Ok(found.map(|()| out))
 }

@@ -7,11 +7,7 @@ use std::test::Fail;
 
 // The number x, n times.
 fn filled<N: Scalar + Drop>(heap: Global, x: u64, n: usize) -> Result<Vec<N>, AllocError> {
-    let mut out = Vec::new(heap);
-    for _ in 0..n {
-        out.push(N::whole(x))?;
-    }
-    Ok(out)
+    Ok(vec![in heap; N::whole(x); n]?)
 }
 
 // One knot more: whether the list took it.
@@ -37,7 +33,7 @@ fn looked<N: Scalar + Drop>(rt: &impl Abort, heap: Global, t: u64) -> Result<Opt
     assert!(rt; push(heap, &mut list, 2, 5, 4)?);
     let at = N::whole(t).time().ok_or("no time")?;
     let found = list.interpolate(at, out.as_mut_slice());
-    Ok(if found { out.first().copied() } else { None })
+    Ok(found.and_then(|()| out.first().copied()))
 }
 
 // That each row of look-ups gives the same number in a format.

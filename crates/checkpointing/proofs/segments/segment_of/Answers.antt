@@ -11,7 +11,7 @@ returns-then-belongs g c =
     let in_ends : c.loop-n.n - 1 < length ends = omega arith in
     let a = get_or_default ends (c.loop-n.n - 1) c.index-ends-n.result (t, t) in_ends in
     let b = get_or_default ends (c.loop-n.n - 1) c.index-ends-n-in-loop-n.result (t, t) in_ends in
-    let e = sym (found g.N.Scalar.kind ends t c.loop-n.n (omega arith) (cc)) ∙ c.loop-n.invariant.1 in
+    let e = sym (found g.N.Scalar.kind ends t c.loop-n.n (omega arith) (cc)) ∙ c.loop-n.invariant in
     record { answer = e; last = last_is g.N.Scalar.kind ends t _ e }
 
 pub loop-n-preserved : goal.loop-n-preserved
@@ -21,12 +21,9 @@ loop-n-preserved g c =
     let in_ends : c.loop-n.n - 1 < length ends = omega arith in
     let a = get_or_default ends (c.loop-n.n - 1) c.index-ends-n.result (t, t) in_ends in
     let b = get_or_default ends (c.loop-n.n - 1) c.index-ends-n-in-loop-n.result (t, t) in_ends in
-    (omega arith, sym (passed g.N.Scalar.kind ends t c.loop-n.n (omega arith) (cc)) ∙ c.loop-n.invariant.1)
+    sym (passed g.N.Scalar.kind ends t c.loop-n.n (omega arith) (cc)) ∙ c.loop-n.invariant
 
-pub returns : goal.returns
-returns g c =
-    let t = c.args.t in
-    let ends = c.args.ends.now in
+pub returns-clause-last : goal.returns-clause-last
+returns-clause-last g c =
     let none : 0 ≡ c.loop-n.n = omega arith in
-    let e = ap (last_of g.N.Scalar.kind ends t) none ∙ c.loop-n.invariant.1 in
-    record { answer = e; last = last_is g.N.Scalar.kind ends t _ e }
+    last_is g.N.Scalar.kind c.args.ends.now c.args.t _ (ap (last_of g.N.Scalar.kind c.args.ends.now c.args.t) none ∙ c.loop-n.invariant)

@@ -1,9 +1,6 @@
-use Rattle.std.proofs.Common.{◌≡◌, ◌≤◌, length}
+use Rattle.std.proofs.Common.{◌≡◌, length}
 use Rattle.checkpointing.specs.Segments.{last_of}
 use Rattle.checkpointing.proofs.segments.segment_of.Given as goal
 
 abbrev pub invariant-loop-n : goal.invariant-loop-n
-invariant-loop-n g l = (l.n ≤ length l.ends) × (last_of g.N.Scalar.kind l.ends l.t l.n ≡ last_of g.N.Scalar.kind l.ends l.t (length l.ends))
-
-abbrev pub decreases-loop-n : goal.decreases-loop-n
-decreases-loop-n g l = l.n
+invariant-loop-n g l = last_of g.N.Scalar.kind l.ends l.t l.n ≡ last_of g.N.Scalar.kind l.ends l.t (length l.ends)
