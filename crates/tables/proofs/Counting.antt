@@ -1,9 +1,9 @@
 -- The digits of a number, one at a time.
-use Rattle.std.proofs.Common.{◌≡◌, ℕ, ◌+◌, ◌-◌, ◌*◌, ◌^◌, ◌<◌, ◌≤◌, min, true, false, cond, ◌&&◌, List, [], ◌∷◌, length, get_or, drop, pos, neg_ℤ, Ok, Err, sym, refl, ap, ◌∙◌, arith}
+use Rattle.std.proofs.Common.{◌≡◌, ℕ, ◌+◌, ◌-◌, ◌*◌, ◌^◌, ◌<◌, ◌≤◌, min, true, false, cond, ◌&&◌, List, [], ◌∷◌, length, get_or, drop, Ok, Err, sym, refl, ap, ◌∙◌, arith}
 use Rattle.std.proofs.lemmas.List.{at_drop_more}
-use Rattle.std.proofs.lemmas.Bool.{eq-eqb, ne_eqb, le-leb, lt-leb, cond-true, cond-false, and_from, and_left, and_right}
+use Rattle.std.proofs.lemmas.Bool.{le-leb, lt-leb, cond-true, cond-false, and_from, and_left, and_right}
 use Rattle.tables.specs.declared.faults.Wrong.TheVariants.{NotWhole, TooLarge}
-use Rattle.tables.specs.Numbers.{map_ok, digits, decimal, bounded, size_of, whole_of}
+use Rattle.tables.specs.Numbers.{digits, decimal, bounded, size_of}
 
 module _ (s : List ℕ) (i : ℕ) (h : i < length s) where
   pub digit_more : 48 ≤ get_or s i 0 → get_or s i 0 ≤ 57 → digits (drop i s) ≡ digits (drop (i + 1) s)
@@ -40,11 +40,3 @@ module _ (m : ℕ) (s : List ℕ) (h : 0 < length s) where
   size_fits n e l q =
       let same : n ≡ decimal 0 s = omega arith in
       ap Ok same ∙ sym (size_is m s h ∙ cond-true _ _ _ e ∙ cond-true _ _ _ (le-leb (decimal 0 s) m (omega arith)))
-
-pub whole_minus : (m : ℕ) (s : List ℕ) → 0 < length s → get_or s 0 0 ≡ 45 → whole_of m s ≡ map_ok (λ n. neg_ℤ (pos n)) (size_of m (drop 1 s))
-whole_minus m [] h e = absurd (omega arith)
-whole_minus m (c ∷ cs) h e = cond-true _ _ _ (eq-eqb c 45 e)
-
-pub whole_plain : (m : ℕ) (s : List ℕ) → 0 < length s → (get_or s 0 0 ≡ 45 → ⊥) → whole_of m s ≡ map_ok pos (size_of m s)
-whole_plain m [] h e = absurd (omega arith)
-whole_plain m (c ∷ cs) h e = cond-false _ _ _ (ne_eqb c 45 e)

@@ -37,18 +37,8 @@ pub(crate) fn whole(word: &[u8], limit: u64) -> Result<i64, Wrong>
     requires { limit < 2 ^ 63 }
     ensures { result ≡ whole_of limit word.now }
 {
-    if word.is_empty() {
-        return Err(Wrong::NotWhole);
-    }
-    if word[0] == b'-' {
-        match size(&word[1..], limit) {
-            Ok(n) => Ok(-(n as i64)),
-            Err(wrong) => Err(wrong),
-        }
-    } else {
-        match size(word, limit) {
-            Ok(n) => Ok(n as i64),
-            Err(wrong) => Err(wrong),
-        }
+    match word {
+        [b'-', digits @ ..] => Ok(-(size(digits, limit)? as i64)),
+        _ => Ok(size(word, limit)? as i64),
     }
 }
