@@ -61,15 +61,8 @@ fn run(rt: &HostRuntime) -> anyhow::Result<()> {
     let bounds = ends(heap, points.as_slice())?;
     let mut out = BufWriter::new(heap, rt.stdout())?;
     writeln!(out, "t segment z v")?;
-    let samples = ride.samples.as_slice();
-    for k in 0..samples.len() / 2 {
-        show(
-            heap,
-            &mut out,
-            points.as_slice(),
-            bounds.as_slice(),
-            samples[2 * k],
-        )?;
+    for [t, _] in ride.samples.as_slice() {
+        show(heap, &mut out, points.as_slice(), bounds.as_slice(), *t)?;
     }
     out.flush()?;
     Ok(())

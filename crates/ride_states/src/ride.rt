@@ -24,10 +24,8 @@ pub(crate) fn time_of(n: i64) -> anyhow::Result<Finite64> {
 }
 
 // A row of the first table: segment, t, h, z, v, dz, dv.
-fn parse_row(row: &[i64]) -> anyhow::Result<Checkpoint> {
-    let [segment, t, _, z, v, dz, dv] = *row else {
-        return Err(anyhow!("a checkpoint has seven numbers"));
-    };
+fn parse_row(row: &[i64; 7]) -> anyhow::Result<Checkpoint> {
+    let [segment, t, _, z, v, dz, dv] = *row;
     let Ok(segment) = usize::try_from(segment) else {
         return Err(anyhow!("a segment's number is not negative"));
     };
@@ -39,9 +37,9 @@ fn parse_row(row: &[i64]) -> anyhow::Result<Checkpoint> {
     })
 }
 
-pub(crate) fn checkpoints(heap: Global, numbers: &[i64]) -> anyhow::Result<Vec<Checkpoint>> {
+pub(crate) fn checkpoints(heap: Global, rows: &[[i64; 7]]) -> anyhow::Result<Vec<Checkpoint>> {
     let mut out = Vec::new(heap);
-    for row in numbers.chunks(7) {
+    for row in rows {
         out.push(parse_row(row)?)?;
     }
     Ok(out)
@@ -54,10 +52,10 @@ pub(crate) fn ends(
 ) -> anyhow::Result<Vec<(Finite64, Finite64)>> {
     let mut out = Vec::new(heap);
     let mut first: Option<Finite64> = None;
-    for k in 0..points.len() {
-        let p = points[k];
+    let mut points = points.iter().peekable();
+    while let Some(p) = points.next() {
         let begin = first.unwrap_or(p.t);
-        if k + 1 < points.len() && points[k + 1].segment == p.segment {
+        if points.peek().is_some_and(|next| next.segment == p.segment) {
             first = Some(begin);
         } else {
             out.push((begin, p.t))?;

@@ -72,26 +72,25 @@ module _ (bs rest : List ℕ) (i : ℕ) (h : i ≤ length bs) (e : rest ≡ slic
       let n_is : position_or_len is_break rest ≡ length bs - i = omega (arith, prefix_len-le-length (λ b. not (is_break b)) rest, ap length same, length-drop i bs) in
       next_at bs i (length bs) (omega (arith, next_within bs i h, ap (position_or_len is_break) same))
 
--- no line ends from the place i up to the place r
-abbrev pub Unended : List ℕ → ℕ → ℕ → Type 0
-Unended bs i r = (r ≤ length bs) × (r < length bs → i ≤ r) × ((k : ℕ) → i ≤ k → k < r → is_end (get_or bs k 0) ≡ false)
+-- no line ends before the place r
+abbrev pub Unended : List ℕ → ℕ → Type 0
+Unended bs r = (r ≤ length bs) × ((k : ℕ) → k < r → is_end (get_or bs k 0) ≡ false)
 
-pub unended_start : (bs : List ℕ) (i r : ℕ) → First is_break bs i r → Unended bs i r
-unended_start bs i r f = (f.within, f.after, λ k h l. (or_parts _ _ (f.none k h l)).1)
+pub unended_start : (bs : List ℕ) (r : ℕ) → First is_break bs 0 r → Unended bs r
+unended_start bs r f = (f.within, λ k l. (or_parts _ _ (f.none k (omega arith) l)).1)
 
 -- from a break that ends no line to the next break
-pub unended_more : (bs : List ℕ) (i j r : ℕ) → Unended bs i j → j < length bs → (get_or bs j 0 ≡ 10 → ⊥) → First is_break bs (j + 1) r → Unended bs i r
-unended_more bs i j r u h ne f = (
+pub unended_more : (bs : List ℕ) (j r : ℕ) → Unended bs j → (get_or bs j 0 ≡ 10 → ⊥) → First is_break bs (j + 1) r → Unended bs r
+unended_more bs j r u ne f = (
   f.within,
-  λ l. omega (arith, u.1 h, f.after l),
-  λ k a b.
+  λ k b.
       ⊎_elim (λ e. ap (λ q. is_end (get_or bs q 0)) e ∙ ne_eqb (get_or bs j 0) 10 ne)
-      (⊎_elim (λ l. u.2 k a l) (λ l. (or_parts _ _ (f.none k (omega arith) b)).1))
+      (⊎_elim (λ l. u.1 k l) (λ l. (or_parts _ _ (f.none k (omega arith) b)).1))
       (cases_order k j),
 )
 
-pub unended_last : (bs : List ℕ) (i r : ℕ) → Unended bs i r → length bs ≤ r → First is_end bs i r
-unended_last bs i r u h = record { within = u.0; after = u.1; none = u.2; found = λ l. absurd (omega arith) }
+pub unended_last : (bs : List ℕ) (r : ℕ) → Unended bs r → length bs ≤ r → First is_end bs 0 r
+unended_last bs r u h = record { within = u.0; after = λ l. omega arith; none = λ k a l. u.1 k l; found = λ l. absurd (omega arith) }
 
-pub unended_at : (bs : List ℕ) (i r : ℕ) → Unended bs i r → get_or bs r 0 ≡ 10 → First is_end bs i r
-unended_at bs i r u e = record { within = u.0; after = u.1; none = u.2; found = λ l. eq-eqb (get_or bs r 0) 10 e }
+pub unended_at : (bs : List ℕ) (r : ℕ) → Unended bs r → get_or bs r 0 ≡ 10 → First is_end bs 0 r
+unended_at bs r u e = record { within = u.0; after = λ l. omega arith; none = λ k a l. u.1 k l; found = λ l. eq-eqb (get_or bs r 0) 10 e }

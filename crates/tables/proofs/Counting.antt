@@ -1,19 +1,17 @@
 -- The digits of a number, one at a time.
 use Rattle.std.proofs.Common.{◌≡◌, ℕ, ◌+◌, ◌-◌, ◌*◌, ◌^◌, ◌<◌, ◌≤◌, min, true, false, cond, ◌&&◌, List, [], ◌∷◌, length, get_or, drop, Ok, Err, sym, refl, ap, ◌∙◌, arith}
 use Rattle.std.proofs.lemmas.List.{at_drop_more}
-use Rattle.std.proofs.lemmas.Bool.{le-leb, lt-leb, cond-true, cond-false, and_from, and_left, and_right}
+use Rattle.std.proofs.lemmas.Bool.{le-leb, lt-leb, cond-true, cond-false}
+use Rattle.std.specs.Char.{is_ascii_digit}
 use Rattle.tables.specs.declared.faults.Wrong.TheVariants.{NotWhole, TooLarge}
 use Rattle.tables.specs.Numbers.{digits, decimal, bounded, size_of}
 
 module _ (s : List ℕ) (i : ℕ) (h : i < length s) where
-  pub digit_more : 48 ≤ get_or s i 0 → get_or s i 0 ≤ 57 → digits (drop i s) ≡ digits (drop (i + 1) s)
-  digit_more lo hi = at_drop_more digits s i 0 h ∙ ap (λ b. b && digits (drop (i + 1) s)) (and_from _ _ (le-leb _ _ lo) (le-leb _ _ hi))
+  pub digit_more : is_ascii_digit (get_or s i 0) ≡ true → digits (drop i s) ≡ digits (drop (i + 1) s)
+  digit_more e = at_drop_more digits s i 0 h ∙ ap (λ b. b && digits (drop (i + 1) s)) e
 
-  pub digit_low : get_or s i 0 < 48 → digits (drop i s) ≡ false
-  digit_low l = at_drop_more digits s i 0 h ∙ and_left _ _ (and_left _ _ (lt-leb _ _ l))
-
-  pub digit_high : 57 < get_or s i 0 → digits (drop i s) ≡ false
-  digit_high l = at_drop_more digits s i 0 h ∙ and_left _ _ (and_right _ _ (lt-leb _ _ l))
+  pub digit_other : is_ascii_digit (get_or s i 0) ≡ false → digits (drop i s) ≡ false
+  digit_other e = at_drop_more digits s i 0 h ∙ ap (λ b. b && digits (drop (i + 1) s)) e
 
 -- numbers that are the same up to a cap stay so with more digits
 capped : (cs : List ℕ) (a b cap : ℕ) → min a cap ≡ min b cap → min (decimal a cs) cap ≡ min (decimal b cs) cap
