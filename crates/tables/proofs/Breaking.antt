@@ -1,11 +1,8 @@
 -- The first break: what the definition gives obeys the law, and the law leaves one place.
-use Rattle.std.proofs.Common.{◌≡◌, ℕ, zero, suc, ◌+◌, ◌<◌, ◌≤◌, false, cond, not, ltb, List, [], ◌∷◌, length, get_or, drop, Some, None, sym, refl, ap, subst, ◌∙◌, ◌-◌, ⊎_elim, length-drop, arith}
-use Rattle.std.specs.List.{slice_range, position, position_or_len}
-use Rattle.std.proofs.lemmas.List.{take_rest}
-use Rattle.std.proofs.lemmas.List.Sums.{prefix_len-le-length}
-use Rattle.std.proofs.lemmas.List.Recursion.{is_position_or_len}
-use Rattle.std.proofs.lemmas.Bool.{cond_both, cases_order, eq-eqb, ne_eqb, or_parts}
-use Rattle.std.proofs.lemmas.Bool.Decides.{nat_tests}
+use Rattle.std.proofs.Common.{◌≡◌, ℕ, zero, suc, ◌+◌, ◌<◌, ◌≤◌, true, false, List, [], ◌∷◌, length, get_or, drop, sym, ap, ◌∙◌, ◌-◌, ⊎_elim, length-drop, arith}
+use Rattle.std.specs.List.{slice_range, AllWithin, HoldsAt}
+use Rattle.std.proofs.lemmas.List.{take_rest, get_or-drop}
+use Rattle.std.proofs.lemmas.Bool.{cond_both, both_ways, cases_order, eq-eqb, ne_eqb, or_parts}
 use Rattle.tables.specs.Breaks.{is_end, is_break, next_break, First}
 
 none_more : (b : ℕ) (bs : List ℕ) (i r : ℕ) → ((k : ℕ) → i ≤ k → k < r → is_break (get_or bs k 0) ≡ false) → (k : ℕ) → suc i ≤ k → k < suc r → is_break (get_or (b ∷ bs) k 0) ≡ false
@@ -25,52 +22,35 @@ first_of (b ∷ bs) zero =
 first_of (b ∷ bs) (suc i) =
     let f = first_of bs i in record { within = omega (arith, f.within); after = λ l. omega (arith, f.after (omega arith)); none = none_more b bs i _ f.none; found = λ l. f.found (omega arith) }
 
--- the definition counts the bytes that are no break
-next_start : (bs : List ℕ) → next_break bs 0 ≡ position_or_len is_break bs
-next_start bs = is_position_or_len (λ bs. next_break bs 0) is_break refl (λ b bs. let e : suc (next_break bs 0) ≡ 1 + next_break bs 0 = omega arith in ap (cond (is_break b) 0) e) bs
-
-next_within : (bs : List ℕ) (i : ℕ) → i ≤ length bs → next_break bs i ≡ i + position_or_len is_break (drop i bs)
-next_within [] zero h = refl
-next_within [] (suc i) h = absurd (omega arith)
-next_within (b ∷ bs) zero h = omega (arith, next_start (b ∷ bs))
-next_within (b ∷ bs) (suc i) h = omega (arith, next_within bs i (omega arith))
-
-next_past : (bs : List ℕ) (i : ℕ) → length bs ≤ i → next_break bs i ≡ length bs
-next_past [] i h = refl
-next_past (b ∷ bs) zero h = absurd (omega arith)
-next_past (b ∷ bs) (suc i) h = omega (arith, next_past bs i (omega arith))
-
--- r is the place of the first break from the place i on
-abbrev pub Next : List ℕ → ℕ → ℕ → Type 0
-Next bs i r = (r ≡ next_break bs i) × First is_break bs i r
-
-next_at : (bs : List ℕ) (i r : ℕ) → r ≡ next_break bs i → Next bs i r
-next_at bs i r e = (e, subst (First is_break bs i) (sym e) (first_of bs i))
-
-pub next_beyond : (bs : List ℕ) (i : ℕ) → length bs ≤ i → Next bs i (length bs)
-next_beyond bs i h = next_at bs i (length bs) (sym (next_past bs i h))
-
-some_is : (k l n : ℕ) → Some n ≡ cond (ltb k l) (Some k) None → n ≡ k
-some_is k l n e = grind (arith, nat_tests)
-
-none_is : (k l : ℕ) → None ≡ cond (ltb k l) (Some k) None → l ≤ k
-none_is k l e = grind (arith, nat_tests)
+pub one_first : (bs : List ℕ) (i r q : ℕ) → First is_break bs i r → First is_break bs i q → r ≡ q
+one_first bs i r q f g =
+    ⊎_elim (λ e. e) (⊎_elim
+    (λ l. let w : r < length bs = omega (arith, g.within) in absurd (both_ways _ (g.none r (f.after w) l) (f.found w)))
+    (λ l. let w : q < length bs = omega (arith, f.within) in absurd (both_ways _ (f.none q (g.after w) l) (g.found w))))
+    (cases_order r q)
 
 -- what stands from the place i on was looked through
 module _ (bs rest : List ℕ) (i : ℕ) (h : i ≤ length bs) (e : rest ≡ slice_range bs i (length bs)) where
   same : rest ≡ drop i bs
   same = e ∙ take_rest bs i
 
-  pub next_found : (n : ℕ) → Some n ≡ position is_break rest → Next bs i (i + n)
-  next_found n f =
-      let n_is : n ≡ position_or_len is_break (drop i bs) = some_is _ _ n f ∙ ap (position_or_len is_break) same in
-      next_at bs i (i + n) (omega (arith, next_within bs i h))
+  same_at : (k : ℕ) → get_or bs (i + k) 0 ≡ get_or rest k 0
+  same_at k = sym (ap (λ l. get_or l k 0) same ∙ get_or-drop i bs k 0)
 
-  pub next_none : None ≡ position is_break rest → Next bs i (length bs)
-  next_none f =
-      let long : length rest ≤ position_or_len is_break rest = none_is _ _ f in
-      let n_is : position_or_len is_break rest ≡ length bs - i = omega (arith, prefix_len-le-length (λ b. not (is_break b)) rest, ap length same, length-drop i bs) in
-      next_at bs i (length bs) (omega (arith, next_within bs i h, ap (position_or_len is_break) same))
+  free : (n : ℕ) → AllWithin (λ b. is_break b ≡ false) rest 0 n → (k : ℕ) → i ≤ k → k < i + n → is_break (get_or bs k 0) ≡ false
+  free n w k lo hi =
+      let at : k ≡ i + (k - i) = omega arith in
+      ap (λ j. is_break (get_or bs j 0)) at ∙ ap is_break (same_at (k - i)) ∙ w (k - i) 0 (omega arith) (omega arith)
+
+  pub first_found : (n : ℕ) → (n < length rest) × HoldsAt (λ b. is_break b ≡ true) rest n × AllWithin (λ b. is_break b ≡ false) rest 0 n → First is_break bs i (i + n)
+  first_found n (l, y, w) =
+      let long : length rest ≡ length bs - i = ap length same ∙ length-drop i bs in
+      record { within = omega arith; after = λ _. omega arith; none = free n w; found = λ _. ap is_break (same_at n) ∙ y 0 }
+
+  pub first_none : AllWithin (λ b. is_break b ≡ false) rest 0 (length rest) → First is_break bs i (length bs)
+  first_none w =
+      let long : length rest ≡ length bs - i = ap length same ∙ length-drop i bs in
+      record { within = omega arith; after = λ _. h; none = λ k lo hi. free (length rest) w k lo (omega arith); found = λ l. absurd (omega arith) }
 
 -- no line ends before the place r
 abbrev pub Unended : List ℕ → ℕ → Type 0

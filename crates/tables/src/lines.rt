@@ -6,13 +6,22 @@ ghost use Rattle.tables.specs.Steps.{NextLine, skip_of};
 ghost use Rattle.tables.specs.Text.{lines_of, is_blank};
 
 use crate::breaks::next_break;
-use crate::words::is_blank;
+use crate::words::Words;
 
 // A line of the text, without its newline, and its number, from 1.
 #[derive(Clone, Copy)]
 pub struct Line<'a> {
     pub text: &'a [u8],
     pub number: usize,
+}
+
+impl Line<'_> {
+    // Whether the line has no word.
+    pub(crate) fn is_blank(self) -> bool
+        ensures { result ≡ is_blank self.entry.text.now }
+    {
+        Words::new(self.text).next().is_none()
+    }
 }
 
 // What is left of the text, line by line, and the number of the next line. Each line before it had at least its newline,
@@ -25,7 +34,7 @@ pub struct Lines<'a> {
     ghost few: { number + length rest.now < 2 ^ 64 },
 }
 
-// Where the first line ends: at its newline or the text's end. It goes from break to break.
+// Where the first line ends: at its newline or the text's end. It leaps from break to break, so no `for` counts its place.
 fn line_end(text: &[u8]) -> usize
     ensures { First is_end text.now 0 result }
 {
@@ -76,7 +85,7 @@ impl<'a> Lines<'a> {
         ensures full { IfSome result (λ line. is_blank line.text.now ≡ false) }
     {
         while let Some(line) = self.next() {
-            if !is_blank(line.text) {
+            if !line.is_blank() {
                 return Some(line);
             }
         }

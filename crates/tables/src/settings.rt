@@ -6,7 +6,6 @@ ghost use Rattle.tables.specs.Text.{lines_of};
 use crate::faults::{Fault, Part, Wrong};
 use crate::lines::Lines;
 use crate::number::Limit;
-use crate::words::is_blank;
 
 impl Lines<'_> {
     // Only blank lines may be left.
@@ -28,7 +27,7 @@ impl Lines<'_> {
         let Some(line) = self.next() else {
             return Err(none);
         };
-        if is_blank(line.text) {
+        if line.is_blank() {
             return Err(none);
         }
         let row = line.row(limit)?;

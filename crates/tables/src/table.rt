@@ -9,17 +9,19 @@ use crate::faults::{Fault, Part, Wrong};
 use crate::lines::{Line, Lines};
 use crate::number::Limit;
 use crate::row::row;
-use crate::words::{is_blank, same_words};
+use crate::words::same_words;
 use std::alloc::Global;
 
-// The names of a table's columns, in one line.
-pub(crate) fn names(part: Part) -> &'static str
-    ensures { result.now ≡ names_of part }
-{
-    match part {
-        Part::Checkpoints => "segment t h z v dz dv",
-        Part::Samples => "t dg",
-        Part::Settings => "start k c g b",
+impl Part {
+    // The names of the table's columns, in one line.
+    pub(crate) fn names(self) -> &'static str
+        ensures { result.now ≡ names_of self }
+    {
+        match self {
+            Part::Checkpoints => "segment t h z v dz dv",
+            Part::Samples => "t dg",
+            Part::Settings => "start k c g b",
+        }
     }
 }
 
@@ -41,7 +43,7 @@ impl Lines<'_> {
         let Some(line) = self.next_full() else {
             return Err(Fault::Line(self.number, Wrong::Missing(part)));
         };
-        if !same_words(line.text, names(part).as_bytes()) {
+        if !same_words(line.text, part.names().as_bytes()) {
             return Err(Fault::Line(line.number, Wrong::Names(part)));
         }
         Ok(())
@@ -58,7 +60,7 @@ impl Lines<'_> {
     {
         let mut rows = Vec::new(heap);
         while let Some(line) = self.next() {
-            if is_blank(line.text) {
+            if line.is_blank() {
                 break;
             }
             rows.push(line.row(limit)?)?;

@@ -1,7 +1,7 @@
 // The words of a line, which one blank or more separate.
 ghost use Rattle.std.specs.Prelude.{◌≡◌};
 ghost use Rattle.std.specs.Iterator.{YieldsFirstRef, item_count};
-ghost use Rattle.tables.specs.Text.{words_of, is_blank, same_words};
+ghost use Rattle.tables.specs.Text.{words_of, same_words};
 
 use crate::breaks::next_break;
 
@@ -38,13 +38,6 @@ impl<'a> Iterator for Words<'a> {
         }
         None
     }
-}
-
-// Whether the line has no word.
-pub(crate) fn is_blank(line: &[u8]) -> bool
-    ensures { result ≡ is_blank line.now }
-{
-    Words::new(line).next().is_none()
 }
 
 // Whether two lines have the same words.

@@ -1,6 +1,6 @@
 use Rattle.std.proofs.Common.{sym, ap}
 use Rattle.tables.specs.Tables.{names_of}
-use Rattle.tables.proofs.table.names.Goals as goal
+use Rattle.tables.proofs.faults.Part.names.Goals as goal
 
 pub returns-in-Checkpoints : goal.returns-in-Checkpoints
 returns-in-Checkpoints c = ap names_of (sym c.in-Checkpoints.is)
