@@ -15,33 +15,30 @@ use Rattle.tables.specs.Text.{lines_of, words_of, is_blank}
 use Rattle.tables.proofs.Ordering.{segments_more}
 
 -- a value that comes last comes from values before it
-not_ok : {X E : Type 0} (b : E) (x : X) → Err b ≡ Ok x → ⊥
-not_ok b x e = let z : ◌≡◌ {A = ℕ} 0 1 = cc in omega arith
-
 and_then-ok : {X Y E : Type 0} (r : Result X E) (f : X → Result Y E) (y : Y) → and_then r f ≡ Ok y → (x : X) × (r ≡ Ok x) × (f x ≡ Ok y)
 and_then-ok (Ok x) f y e = (x, refl, e)
-and_then-ok (Err b) f y e = absurd (not_ok b y e)
+and_then-ok (Err b) f y e = cc
 
 map_ok-ok : {X Y E : Type 0} (f : X → Y) (r : Result X E) (y : Y) → map_ok f r ≡ Ok y → (x : X) × (r ≡ Ok x) × (f x ≡ y)
 map_ok-ok f (Ok x) y e = (x, refl, cc)
-map_ok-ok f (Err b) y e = absurd (not_ok b y e)
+map_ok-ok f (Err b) y e = cc
 
 at_line-ok : {X : Type 0} (n : ℕ) (r : Result X Wrong) (x : X) → at_line n r ≡ Ok x → r ≡ Ok x
 at_line-ok n (Ok y) x e = ap Ok cc
-at_line-ok n (Err w) x e = absurd (not_ok _ x e)
+at_line-ok n (Err w) x e = cc
 
 -- of two ways the one that does not fail was taken
 cond_ok : {X E : Type 0} (t : Bool) (r : Result X E) (b : E) (x : X) → cond t r (Err b) ≡ Ok x → (t ≡ true) × (r ≡ Ok x)
 cond_ok true r b x e = (refl, e)
-cond_ok false r b x e = absurd (not_ok b x e)
+cond_ok false r b x e = cc
 
 cond_not : {X E : Type 0} (t : Bool) (r : Result X E) (b : E) (x : X) → cond t (Err b) r ≡ Ok x → r ≡ Ok x
-cond_not true r b x e = absurd (not_ok b x e)
+cond_not true r b x e = cc
 cond_not false r b x e = e
 
 -- numbers
 size_small : (m : ℕ) (s : List ℕ) (n : ℕ) → size_of m s ≡ Ok n → n ≤ m
-size_small m [] n e = absurd (not_ok _ n e)
+size_small m [] n e = cc
 size_small m (c ∷ cs) n e =
     let a = cond_ok (digits (c ∷ cs)) _ _ n e in
     let b = cond_ok (leb (decimal 0 (c ∷ cs)) m) _ _ n a.1 in
@@ -53,7 +50,7 @@ nat_abs-neg zero = refl
 nat_abs-neg (suc n) = refl
 
 whole_small : (m : ℕ) (w : List ℕ) (z : ℤ) → whole_of m w ≡ Ok z → nat_abs z ≤ m
-whole_small m [] z e = absurd (not_ok _ z e)
+whole_small m [] z e = cc
 whole_small m (c ∷ cs) z e =
     ⊎_elim
     (λ t. let a = map_ok-ok _ (size_of m cs) z (sym (cond-true (eqb c 45) _ _ t) ∙ e) in
@@ -65,8 +62,8 @@ whole_small m (c ∷ cs) z e =
 -- rows
 row_law : (m k : ℕ) (ws : List (List ℕ)) (zs : List ℤ) → row_of m k ws ≡ Ok zs → (length zs ≡ k) × Within m zs
 row_law m zero [] zs e = let none : [] ≡ zs = cc in subst (λ l. (length l ≡ 0) × Within m l) none (refl, tt)
-row_law m zero (w ∷ ws) zs e = absurd (not_ok _ zs e)
-row_law m (suc k) [] zs e = absurd (not_ok _ zs e)
+row_law m zero (w ∷ ws) zs e = cc
+row_law m (suc k) [] zs e = cc
 row_law m (suc k) (w ∷ ws) zs e =
     let a = and_then-ok (whole_of m w) _ zs e in
     let b = map_ok-ok _ (row_of m k ws) zs a.2 in
@@ -118,7 +115,7 @@ steps_law (suc k) zs n e h =
 
 order_law : (n : ℕ) (zs : List ℤ) → order_of n zs ≡ Ok tt
     → (0 < length zs) × (get_or zs 0 (pos 0) ≡ pos 0) × ((k : ℕ) → 7 * (k + 1) < length zs → Follows (get_or zs (7 * k) (pos 0)) (get_or zs (7 * (k + 1)) (pos 0)))
-order_law n [] e = absurd (not_ok _ tt e)
+order_law n [] e = cc
 order_law n (z ∷ zs) e =
     let some : 0 < length (z ∷ zs) = omega arith in
     let a = cond_ok (int_eq z (pos 0)) _ _ tt (ap (start_of n) (sym (segments_more (z ∷ zs) 0 7 some refl)) ∙ e) in
@@ -145,7 +142,7 @@ samples_law m n ls p e =
     ((rows.0, rows.1), rows.2)
 
 last_law : (m n : ℕ) (ls : List (List ℕ)) (zs : List ℤ) → last_of m n ls ≡ Ok zs → (length zs ≡ 5) × Within m zs
-last_law m n [] zs e = absurd (not_ok _ zs e)
+last_law m n [] zs e = cc
 last_law m n (l ∷ ls) zs e =
     let a = and_then-ok (at_line n (row_of m 5 (words_of l))) _ zs (cond_not (is_blank l) _ _ zs e) in
     let b = map_ok-ok _ (end_of (n + 1) ls) zs a.2 in
