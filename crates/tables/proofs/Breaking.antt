@@ -2,7 +2,7 @@
 use Rattle.std.proofs.Common.{◌≡◌, ℕ, zero, suc, ◌+◌, ◌<◌, ◌≤◌, true, false, List, [], ◌∷◌, length, get_or, drop, sym, ap, ◌∙◌, ◌-◌, ⊎_elim, length-drop, arith}
 use Rattle.std.specs.List.{slice_range, AllWithin, HoldsAt}
 use Rattle.std.proofs.lemmas.List.{take_rest, get_or-drop}
-use Rattle.std.proofs.lemmas.Bool.{cond_both, both_ways, cases_order, eq-eqb, ne_eqb, or_parts}
+use Rattle.std.proofs.lemmas.Bool.{cond_both, both_ways, cases_order}
 use Rattle.tables.specs.Breaks.{is_end, is_break, next_break, First}
 
 none_more : (b : ℕ) (bs : List ℕ) (i r : ℕ) → ((k : ℕ) → i ≤ k → k < r → is_break (get_or bs k 0) ≡ false) → (k : ℕ) → suc i ≤ k → k < suc r → is_break (get_or (b ∷ bs) k 0) ≡ false
@@ -55,22 +55,3 @@ module _ (bs rest : List ℕ) (i : ℕ) (h : i ≤ length bs) (e : rest ≡ slic
 -- no line ends before the place r
 abbrev pub Unended : List ℕ → ℕ → Type 0
 Unended bs r = (r ≤ length bs) × ((k : ℕ) → k < r → is_end (get_or bs k 0) ≡ false)
-
-pub unended_start : (bs : List ℕ) (r : ℕ) → First is_break bs 0 r → Unended bs r
-unended_start bs r f = (f.within, λ k l. (or_parts _ _ (f.none k (omega arith) l)).1)
-
--- from a break that ends no line to the next break
-pub unended_more : (bs : List ℕ) (j r : ℕ) → Unended bs j → (get_or bs j 0 ≡ 10 → ⊥) → First is_break bs (j + 1) r → Unended bs r
-unended_more bs j r u ne f = (
-  f.within,
-  λ k b.
-      ⊎_elim (λ e. ap (λ q. is_end (get_or bs q 0)) e ∙ ne_eqb (get_or bs j 0) 10 ne)
-      (⊎_elim (λ l. u.1 k l) (λ l. (or_parts _ _ (f.none k (omega arith) b)).1))
-      (cases_order k j),
-)
-
-pub unended_last : (bs : List ℕ) (r : ℕ) → Unended bs r → length bs ≤ r → First is_end bs 0 r
-unended_last bs r u h = record { within = u.0; after = λ l. omega arith; none = λ k a l. u.1 k l; found = λ l. absurd (omega arith) }
-
-pub unended_at : (bs : List ℕ) (r : ℕ) → Unended bs r → get_or bs r 0 ≡ 10 → First is_end bs 0 r
-unended_at bs r u e = record { within = u.0; after = λ l. omega arith; none = λ k a l. u.1 k l; found = λ l. eq-eqb (get_or bs r 0) 10 e }

@@ -1,7 +1,7 @@
 -- A row of numbers, word by word.
-use Rattle.std.proofs.Common.{◌≡◌, ℕ, zero, suc, ◌+◌, ◌-◌, ◌<◌, List, [], ◌∷◌, ◌++◌, ℤ, Ok, Err, Result, sym, refl, ap, ◌∙◌, append_assoc, append-nil, arith}
+use Rattle.std.proofs.Common.{◌≡◌, ℕ, zero, suc, ◌+◌, ◌-◌, ◌<◌, List, [], ◌∷◌, ◌++◌, ℤ, Ok, Err, Result, sym, refl, ap, ◌∙◌, append_assoc, arith}
 use Rattle.tables.specs.declared.faults.Wrong.{Wrong}
-use Rattle.tables.specs.declared.faults.Wrong.TheVariants.{TooFew, TooMany}
+use Rattle.tables.specs.declared.faults.Wrong.TheVariants.{TooFew}
 use Rattle.tables.specs.Numbers.{map_ok, whole_of}
 use Rattle.tables.specs.Tables.{and_then, row_of}
 
@@ -34,9 +34,3 @@ module _ (m k : ℕ) (vs : List ℤ) (says : Result (List ℤ) Wrong) (words : L
       let next : k - 1 ≡ j = omega arith in
       inv ∙ ap (λ l. on_row vs (row_of m k l)) e ∙ ap (on_row vs) (one k w ws (omega arith)) ∙ ap (λ o. on_row vs (and_then o (λ z. map_ok (λ zs. z ∷ zs) (row_of m (k - 1) ws)))) (sym q)
       ∙ on_row-push vs z (row_of m (k - 1) ws) ∙ ap (λ l. on_row l (row_of m (k - 1) ws)) (sym p) ∙ ap (λ i. on_row us (row_of m i ws)) next
-
-  pub row_all : k ≡ 0 → words ≡ [] → says ≡ Ok vs
-  row_all h e = inv ∙ ap (λ l. on_row vs (row_of m k l)) e ∙ ap (λ j. on_row vs (row_of m j [])) h ∙ ap Ok (append-nil vs)
-
-  pub row_much : (w : List ℕ) (ws : List (List ℕ)) → k ≡ 0 → words ≡ w ∷ ws → says ≡ Err TooMany
-  row_much w ws h e = inv ∙ ap (λ l. on_row vs (row_of m k l)) e ∙ ap (λ j. on_row vs (row_of m j (w ∷ ws))) h

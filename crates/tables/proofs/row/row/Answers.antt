@@ -1,8 +1,8 @@
-use Rattle.std.proofs.Common.{◌≡◌, ◌+◌, ◌-◌, ◌<◌, [], ◌∷◌, ◌++◌, length, take, Ok, Err, sym, ap, ◌∙◌, length-set, arith, w64, SFits, rules}
-use Rattle.std.proofs.lemmas.List.{take_all, take_more_set}
+use Rattle.std.proofs.Common.{◌+◌, ◌-◌, ◌<◌, [], ◌∷◌, ◌++◌, length, take, Err, sym, ap, ◌∙◌, length-set, arith, w64, SFits, rules}
+use Rattle.std.proofs.lemmas.List.{take_more_set}
 use Rattle.std.proofs.lemmas.Int.{to_z-of_z}
 use Rattle.std.proofs.lemmas.Result.{err_from_is_err_and}
-use Rattle.tables.proofs.Rowing.{row_few, row_bad, row_more, row_all, row_much}
+use Rattle.tables.proofs.Rowing.{row_few, row_bad, row_more}
 use Rattle.tables.proofs.row.row.Goals as goal
 
 pub returns-in_default : goal.returns-in_default
@@ -24,12 +24,3 @@ loop-z-preserved g c =
       row_more _ (g.row.W - i) _ _ _ c.loop-z.invariant.1 (g.row.W - (i + 1)) _ _ z _ (omega arith) c.in-Some.ensures.steps c.in_ok-z.ensures
           (take_more_set zs i _ within ∙ ap (λ y. take i zs ++ y ∷ []) (to_z-of_z w64 z fits)),
     )
-
-pub returns-in-Some-next : goal.returns-in-Some-next
-returns-in-Some-next g c = sym (row_much _ (g.row.W - c.loop-z.z-index) _ _ _ c.loop-z.invariant.1 _ _ (omega arith) c.in-Some-next.ensures.steps)
-
-pub returns-in-None : goal.returns-in-None
-returns-in-None g c =
-    let zs = c.loop-z.z-items in
-    let all : take c.loop-z.z-index zs ≡ zs = take_all _ zs (omega (arith, c.loop-z.invariant.0)) in
-    sym (row_all _ (g.row.W - c.loop-z.z-index) _ _ _ c.loop-z.invariant.1 (omega arith) c.in-None.ensures.steps.0 ∙ ap Ok all)
