@@ -31,8 +31,7 @@ fn show(
     };
     match state_at(heap, points, segment, t)? {
         Some(state) => {
-            let z = state[0];
-            let v = state[1];
+            let [z, v] = state;
             writeln!(out, "{n} {segment} {z} {v}")?
         }
         None => writeln!(out, "{n} {segment} - -")?,
@@ -53,10 +52,7 @@ fn run(rt: &HostRuntime) -> anyhow::Result<()> {
     refuse_arguments(rt)?;
     let mut bytes = Vec::new(heap);
     rt.stdin().read_to_end(&mut bytes)?;
-    let ride = match tables::read(heap, bytes.as_slice(), LARGEST) {
-        Ok(ride) => ride,
-        Err(fault) => return Err(anyhow!(format!(in heap; "{fault}")?)),
-    };
+    let ride = tables::read(heap, bytes.as_slice(), LARGEST)?;
     let points = checkpoints(heap, ride.checkpoints.as_slice())?;
     let bounds = ends(heap, points.as_slice())?;
     let mut out = BufWriter::new(heap, rt.stdout())?;

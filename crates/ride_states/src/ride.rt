@@ -1,5 +1,5 @@
 // A ride of the contact model in f64: its checkpoints, the ends of its segments, and the state at an instant.
-use anyhow::anyhow;
+use anyhow::{Context, anyhow};
 use checkpointing::interpolator::HermiteInterpolator;
 use scalar::Scalar;
 use scalar::times::Finite64;
@@ -17,10 +17,7 @@ pub struct Checkpoint {
 
 // Whole numbers in the table are far from the ends of f64, so each is a time.
 pub(crate) fn time_of(n: i64) -> anyhow::Result<Finite64> {
-    match integer::<f64>(n).time() {
-        Some(t) => Ok(t),
-        None => Err(anyhow!("a time is not finite")),
-    }
+    integer::<f64>(n).time().context("a time is not finite")
 }
 
 // A row of the first table: segment, t, h, z, v, dz, dv.
@@ -38,11 +35,7 @@ fn parse_row(row: &[i64; 7]) -> anyhow::Result<Checkpoint> {
 }
 
 pub(crate) fn checkpoints(heap: Global, rows: &[[i64; 7]]) -> anyhow::Result<Vec<Checkpoint>> {
-    let mut out = Vec::new(heap);
-    for row in rows {
-        out.push(parse_row(row)?)?;
-    }
-    Ok(out)
+    rows.iter().map(parse_row).try_collect(heap)
 }
 
 // The first and the last time of each segment.

@@ -1,5 +1,6 @@
 // What is told of a fault.
 use crate::faults::{Fault, Wrong};
+use std::error::Error;
 use std::fmt;
 
 impl fmt::Display for Wrong {
@@ -35,3 +36,5 @@ impl fmt::Display for Fault {
         }
     }
 }
+
+impl Error for Fault {}
