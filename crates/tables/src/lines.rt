@@ -84,11 +84,6 @@ impl<'a> Lines<'a> {
         ensures next { NextLine (skip_of self.old.number (lines_of self.old.rest.now)) (option_map (λ line. (line.number, line.text.now)) result) (self.new.number, lines_of self.new.rest.now) }
         ensures full { IfSome result (λ line. is_blank line.text.now ≡ false) }
     {
-        while let Some(line) = self.next() {
-            if !line.is_blank() {
-                return Some(line);
-            }
-        }
-        None
+        self.find(|line| !line.is_blank())
     }
 }
