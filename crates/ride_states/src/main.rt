@@ -31,8 +31,7 @@ fn show(
     };
     match state_at(heap, points, segment, t)? {
         Some(state) => {
-            let z = state[0];
-            let v = state[1];
+            let [z, v] = state;
             writeln!(out, "{n} {segment} {z} {v}")?
         }
         None => writeln!(out, "{n} {segment} - -")?,
@@ -53,23 +52,13 @@ fn run(rt: &HostRuntime) -> anyhow::Result<()> {
     refuse_arguments(rt)?;
     let mut bytes = Vec::new(heap);
     rt.stdin().read_to_end(&mut bytes)?;
-    let ride = match tables::read(heap, bytes.as_slice(), LARGEST) {
-        Ok(ride) => ride,
-        Err(fault) => return Err(anyhow!(format!(in heap; "{fault}")?)),
-    };
+    let ride = tables::read(heap, bytes.as_slice(), LARGEST)?;
     let points = checkpoints(heap, ride.checkpoints.as_slice())?;
     let bounds = ends(heap, points.as_slice())?;
     let mut out = BufWriter::new(heap, rt.stdout())?;
     writeln!(out, "t segment z v")?;
-    let samples = ride.samples.as_slice();
-    for k in 0..samples.len() / 2 {
-        show(
-            heap,
-            &mut out,
-            points.as_slice(),
-            bounds.as_slice(),
-            samples[2 * k],
-        )?;
+    for [t, _] in ride.samples.as_slice() {
+        show(heap, &mut out, points.as_slice(), bounds.as_slice(), *t)?;
     }
     out.flush()?;
     Ok(())

@@ -1,5 +1,5 @@
 // A ride of the contact model in f64: its checkpoints, the ends of its segments, and the state at an instant.
-use anyhow::anyhow;
+use anyhow::{Context, anyhow};
 use checkpointing::interpolator::HermiteInterpolator;
 use scalar::Scalar;
 use scalar::times::Finite64;
@@ -17,17 +17,12 @@ pub struct Checkpoint {
 
 // Whole numbers in the table are far from the ends of f64, so each is a time.
 pub(crate) fn time_of(n: i64) -> anyhow::Result<Finite64> {
-    match integer::<f64>(n).time() {
-        Some(t) => Ok(t),
-        None => Err(anyhow!("a time is not finite")),
-    }
+    integer::<f64>(n).time().context("a time is not finite")
 }
 
 // A row of the first table: segment, t, h, z, v, dz, dv.
-fn parse_row(row: &[i64]) -> anyhow::Result<Checkpoint> {
-    let [segment, t, _, z, v, dz, dv] = *row else {
-        return Err(anyhow!("a checkpoint has seven numbers"));
-    };
+fn parse_row(row: &[i64; 7]) -> anyhow::Result<Checkpoint> {
+    let [segment, t, _, z, v, dz, dv] = *row;
     let Ok(segment) = usize::try_from(segment) else {
         return Err(anyhow!("a segment's number is not negative"));
     };
@@ -39,12 +34,8 @@ fn parse_row(row: &[i64]) -> anyhow::Result<Checkpoint> {
     })
 }
 
-pub(crate) fn checkpoints(heap: Global, numbers: &[i64]) -> anyhow::Result<Vec<Checkpoint>> {
-    let mut out = Vec::new(heap);
-    for row in numbers.chunks(7) {
-        out.push(parse_row(row)?)?;
-    }
-    Ok(out)
+pub(crate) fn checkpoints(heap: Global, rows: &[[i64; 7]]) -> anyhow::Result<Vec<Checkpoint>> {
+    rows.iter().map(parse_row).try_collect(heap)
 }
 
 // The first and the last time of each segment.
@@ -54,10 +45,10 @@ pub(crate) fn ends(
 ) -> anyhow::Result<Vec<(Finite64, Finite64)>> {
     let mut out = Vec::new(heap);
     let mut first: Option<Finite64> = None;
-    for k in 0..points.len() {
-        let p = points[k];
+    let mut points = points.iter().peekable();
+    while let Some(p) = points.next() {
         let begin = first.unwrap_or(p.t);
-        if k + 1 < points.len() && points[k + 1].segment == p.segment {
+        if points.peek().is_some_and(|next| next.segment == p.segment) {
             first = Some(begin);
         } else {
             out.push((begin, p.t))?;

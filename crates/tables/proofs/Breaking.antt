@@ -1,6 +1,8 @@
 -- The first break: what the definition gives obeys the law, and the law leaves one place.
-use Rattle.std.proofs.Common.{◌≡◌, ℕ, zero, suc, ◌+◌, ◌<◌, ◌≤◌, false, List, [], ◌∷◌, length, get_or, ap, ◌∙◌, ⊎_elim, arith}
-use Rattle.std.proofs.lemmas.Bool.{cond_both, both_ways, cases_order, eq-eqb, ne_eqb, or_parts}
+use Rattle.std.proofs.Common.{◌≡◌, ℕ, zero, suc, ◌+◌, ◌<◌, ◌≤◌, true, false, List, [], ◌∷◌, length, get_or, drop, sym, ap, ◌∙◌, ◌-◌, ⊎_elim, length-drop, arith}
+use Rattle.std.specs.List.{slice_range, AllWithin, HoldsAt}
+use Rattle.std.proofs.lemmas.List.{take_rest, get_or-drop}
+use Rattle.std.proofs.lemmas.Bool.{cond_both, both_ways, cases_order}
 use Rattle.tables.specs.Breaks.{is_end, is_break, next_break, First}
 
 none_more : (b : ℕ) (bs : List ℕ) (i r : ℕ) → ((k : ℕ) → i ≤ k → k < r → is_break (get_or bs k 0) ≡ false) → (k : ℕ) → suc i ≤ k → k < suc r → is_break (get_or (b ∷ bs) k 0) ≡ false
@@ -27,26 +29,29 @@ one_first bs i r q f g =
     (λ l. let w : q < length bs = omega (arith, f.within) in absurd (both_ways _ (f.none q (g.after w) l) (g.found w))))
     (cases_order r q)
 
--- no line ends from the place i up to the place r
-abbrev pub Unended : List ℕ → ℕ → ℕ → Type 0
-Unended bs i r = (r ≤ length bs) × (r < length bs → i ≤ r) × ((k : ℕ) → i ≤ k → k < r → is_end (get_or bs k 0) ≡ false)
+-- what stands from the place i on was looked through
+module _ (bs rest : List ℕ) (i : ℕ) (h : i ≤ length bs) (e : rest ≡ slice_range bs i (length bs)) where
+  same : rest ≡ drop i bs
+  same = e ∙ take_rest bs i
 
-pub unended_start : (bs : List ℕ) (i r : ℕ) → First is_break bs i r → Unended bs i r
-unended_start bs i r f = (f.within, f.after, λ k h l. (or_parts _ _ (f.none k h l)).1)
+  same_at : (k : ℕ) → get_or bs (i + k) 0 ≡ get_or rest k 0
+  same_at k = sym (ap (λ l. get_or l k 0) same ∙ get_or-drop i bs k 0)
 
--- from a break that ends no line to the next break
-pub unended_more : (bs : List ℕ) (i j r : ℕ) → Unended bs i j → j < length bs → (get_or bs j 0 ≡ 10 → ⊥) → First is_break bs (j + 1) r → Unended bs i r
-unended_more bs i j r u h ne f = (
-  f.within,
-  λ l. omega (arith, u.1 h, f.after l),
-  λ k a b.
-      ⊎_elim (λ e. ap (λ q. is_end (get_or bs q 0)) e ∙ ne_eqb (get_or bs j 0) 10 ne)
-      (⊎_elim (λ l. u.2 k a l) (λ l. (or_parts _ _ (f.none k (omega arith) b)).1))
-      (cases_order k j),
-)
+  free : (n : ℕ) → AllWithin (λ b. is_break b ≡ false) rest 0 n → (k : ℕ) → i ≤ k → k < i + n → is_break (get_or bs k 0) ≡ false
+  free n w k lo hi =
+      let at : k ≡ i + (k - i) = omega arith in
+      ap (λ j. is_break (get_or bs j 0)) at ∙ ap is_break (same_at (k - i)) ∙ w (k - i) 0 (omega arith) (omega arith)
 
-pub unended_last : (bs : List ℕ) (i r : ℕ) → Unended bs i r → length bs ≤ r → First is_end bs i r
-unended_last bs i r u h = record { within = u.0; after = u.1; none = u.2; found = λ l. absurd (omega arith) }
+  pub first_found : (n : ℕ) → (n < length rest) × HoldsAt (λ b. is_break b ≡ true) rest n × AllWithin (λ b. is_break b ≡ false) rest 0 n → First is_break bs i (i + n)
+  first_found n (l, y, w) =
+      let long : length rest ≡ length bs - i = ap length same ∙ length-drop i bs in
+      record { within = omega arith; after = λ _. omega arith; none = free n w; found = λ _. ap is_break (same_at n) ∙ y 0 }
 
-pub unended_at : (bs : List ℕ) (i r : ℕ) → Unended bs i r → get_or bs r 0 ≡ 10 → First is_end bs i r
-unended_at bs i r u e = record { within = u.0; after = u.1; none = u.2; found = λ l. eq-eqb (get_or bs r 0) 10 e }
+  pub first_none : AllWithin (λ b. is_break b ≡ false) rest 0 (length rest) → First is_break bs i (length bs)
+  first_none w =
+      let long : length rest ≡ length bs - i = ap length same ∙ length-drop i bs in
+      record { within = omega arith; after = λ _. h; none = λ k lo hi. free (length rest) w k lo (omega arith); found = λ l. absurd (omega arith) }
+
+-- no line ends before the place r
+abbrev pub Unended : List ℕ → ℕ → Type 0
+Unended bs r = (r ≤ length bs) × ((k : ℕ) → k < r → is_end (get_or bs k 0) ≡ false)

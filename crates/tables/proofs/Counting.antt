@@ -1,19 +1,7 @@
 -- The digits of a number, one at a time.
-use Rattle.std.proofs.Common.{◌≡◌, ℕ, ◌+◌, ◌-◌, ◌*◌, ◌^◌, ◌<◌, ◌≤◌, min, true, false, cond, ◌&&◌, List, [], ◌∷◌, length, get_or, drop, pos, neg_ℤ, Ok, Err, sym, refl, ap, ◌∙◌, arith}
+use Rattle.std.proofs.Common.{◌≡◌, ℕ, ◌+◌, ◌-◌, ◌*◌, ◌^◌, ◌<◌, min, List, [], ◌∷◌, length, get_or, drop, sym, ap, ◌∙◌, arith}
 use Rattle.std.proofs.lemmas.List.{at_drop_more}
-use Rattle.std.proofs.lemmas.Bool.{eq-eqb, ne_eqb, le-leb, lt-leb, cond-true, cond-false, and_from, and_left, and_right}
-use Rattle.tables.specs.declared.faults.Wrong.TheVariants.{NotWhole, TooLarge}
-use Rattle.tables.specs.Numbers.{map_ok, digits, decimal, bounded, size_of, whole_of}
-
-module _ (s : List ℕ) (i : ℕ) (h : i < length s) where
-  pub digit_more : 48 ≤ get_or s i 0 → get_or s i 0 ≤ 57 → digits (drop i s) ≡ digits (drop (i + 1) s)
-  digit_more lo hi = at_drop_more digits s i 0 h ∙ ap (λ b. b && digits (drop (i + 1) s)) (and_from _ _ (le-leb _ _ lo) (le-leb _ _ hi))
-
-  pub digit_low : get_or s i 0 < 48 → digits (drop i s) ≡ false
-  digit_low l = at_drop_more digits s i 0 h ∙ and_left _ _ (and_left _ _ (lt-leb _ _ l))
-
-  pub digit_high : 57 < get_or s i 0 → digits (drop i s) ≡ false
-  digit_high l = at_drop_more digits s i 0 h ∙ and_left _ _ (and_right _ _ (lt-leb _ _ l))
+use Rattle.tables.specs.Numbers.{decimal}
 
 -- numbers that are the same up to a cap stay so with more digits
 capped : (cs : List ℕ) (a b cap : ℕ) → min a cap ≡ min b cap → min (decimal a cs) cap ≡ min (decimal b cs) cap
@@ -24,27 +12,3 @@ pub decimal_more : (s : List ℕ) (i n q cap : ℕ) → i < length s → cap < 2
     → min (decimal q (drop (i + 1) s)) cap ≡ min (decimal n (drop i s)) cap
 decimal_more s i n q cap h l e =
     capped (drop (i + 1) s) q (n * 10 + (get_or s i 0 - 48)) cap (omega arith) ∙ ap (λ d. min d cap) (sym (at_drop_more (decimal n) s i 0 h))
-
-size_is : (m : ℕ) (s : List ℕ) → 0 < length s → size_of m s ≡ cond (digits s) (bounded m (decimal 0 s)) (Err NotWhole)
-size_is m [] h = absurd (omega arith)
-size_is m (c ∷ cs) h = refl
-
-module _ (m : ℕ) (s : List ℕ) (h : 0 < length s) where
-  pub size_bad : digits s ≡ false → Err NotWhole ≡ size_of m s
-  size_bad e = sym (size_is m s h ∙ cond-false _ _ _ e)
-
-  pub size_much : (n : ℕ) → digits s ≡ true → m < n → min n (m + 1) ≡ min (decimal 0 s) (m + 1) → Err TooLarge ≡ size_of m s
-  size_much n e l q = sym (size_is m s h ∙ cond-true _ _ _ e ∙ cond-false _ _ _ (lt-leb (decimal 0 s) m (omega arith)))
-
-  pub size_fits : (n : ℕ) → digits s ≡ true → n ≤ m → min n (m + 1) ≡ min (decimal 0 s) (m + 1) → Ok n ≡ size_of m s
-  size_fits n e l q =
-      let same : n ≡ decimal 0 s = omega arith in
-      ap Ok same ∙ sym (size_is m s h ∙ cond-true _ _ _ e ∙ cond-true _ _ _ (le-leb (decimal 0 s) m (omega arith)))
-
-pub whole_minus : (m : ℕ) (s : List ℕ) → 0 < length s → get_or s 0 0 ≡ 45 → whole_of m s ≡ map_ok (λ n. neg_ℤ (pos n)) (size_of m (drop 1 s))
-whole_minus m [] h e = absurd (omega arith)
-whole_minus m (c ∷ cs) h e = cond-true _ _ _ (eq-eqb c 45 e)
-
-pub whole_plain : (m : ℕ) (s : List ℕ) → 0 < length s → (get_or s 0 0 ≡ 45 → ⊥) → whole_of m s ≡ map_ok pos (size_of m s)
-whole_plain m [] h e = absurd (omega arith)
-whole_plain m (c ∷ cs) h e = cond-false _ _ _ (ne_eqb c 45 e)

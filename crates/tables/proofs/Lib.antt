@@ -1,5 +1,6 @@
 pub mod Breaking
 pub mod Cutting
+pub mod Comparing
 pub mod Counting
 pub mod Rowing
 pub mod Lining

@@ -1,72 +1,52 @@
--- The lines of a table, one at a time.
-use Rattle.std.proofs.Common.{◌≡◌, ℕ, ◌+◌, ◌≤◌, true, false, List, [], ◌++◌, length, drop, ℤ, Ok, Err, Result, sym, refl, ap, ◌∙◌, append_assoc, append-nil}
-use Rattle.std.proofs.lemmas.List.{at_drop_all}
-use Rattle.std.proofs.lemmas.Bool.{cond-true, cond-false}
+-- Blank lines before the names of a table, or at the end, are passed over.
+use Rattle.std.proofs.Common.{◌≡◌, ℕ, ◌+◌, Bool, true, false, not, Option, Some, None, Bor, sym, ap, ◌∙◌, subst, List, [], ◌∷◌, refl, arith}
+use Rattle.std.proofs.lemmas.Bool.{true_from_ne_false, false_from_ne_true, cond-true, cond-false}
+use Rattle.std.proofs.lemmas.Grind.{common_steps}
+use Rattle.std.specs.Bool.{⊤}
+use Rattle.std.specs.Fn.{CalledAt}
+use Rattle.std.specs.Iterator.{Yields}
+use Rattle.std.specs.List.{FoldsTo}
+use Rattle.std.specs.Option.{MatchOption, option_map}
+use denote.Param.Members.{Mut}
 use Rattle.tables.specs.declared.faults.Part.{Part}
-use Rattle.tables.specs.declared.faults.Wrong.TheVariants.{Names, Missing, Extra}
-use Rattle.tables.specs.declared.faults.Fault.{Fault}
-use Rattle.tables.specs.declared.faults.Fault.TheVariants.{Line}
-use Rattle.tables.specs.Numbers.{map_ok}
 use Rattle.tables.specs.Rides.{end_of}
-use Rattle.tables.specs.Tables.{Left, and_then, at_line, names_of, row_of, head_of, ahead, rows_of}
-use Rattle.tables.specs.Steps.{NextLine}
-use Rattle.tables.specs.Text.{lines_of, words_of, is_blank, same_words}
+use Rattle.tables.specs.Tables.{Left, head_of}
+use Rattle.tables.specs.Steps.{NextLine, skip_of}
+use Rattle.tables.specs.Text.{is_blank}
 
--- where the names of a table are looked for
-module _ (part : Part) (bs : List ℕ) (i n : ℕ) (says : Result Left Fault) (inv : says ≡ head_of part n (lines_of (drop i bs))) where
-  pub head_none : length bs ≤ i → says ≡ Err (Line n (Missing part))
-  head_none h = inv ∙ at_drop_all (λ l. head_of part n (lines_of l)) bs i h
+pub head_skip : (part : Part) (n : ℕ) (ls : List (List ℕ)) → head_of part n ls ≡ head_of part (skip_of n ls).0 (skip_of n ls).1
+head_skip part n [] = refl
+head_skip part n (l ∷ ls) = let more = head_skip part (n + 1) ls in grind (arith, common_steps)
 
-  module _ (line : List ℕ) (j k : ℕ) (f : NextLine bs i n line j k) where
-    pub head_blank : is_blank line ≡ true → says ≡ head_of part k (lines_of (drop j bs))
-    head_blank e = inv ∙ ap (head_of part n) f.lines ∙ cond-true _ _ _ e ∙ ap (λ q. head_of part q (lines_of (drop j bs))) (sym f.number)
+pub end_skip : (n : ℕ) (ls : List (List ℕ)) → end_of n ls ≡ end_of (skip_of n ls).0 (skip_of n ls).1
+end_skip n [] = refl
+end_skip n (l ∷ ls) = let more = end_skip (n + 1) ls in grind (arith, common_steps)
 
-    pub head_names : is_blank line ≡ false → same_words (words_of line) (words_of (names_of part)) ≡ true → says ≡ Ok (k, lines_of (drop j bs))
-    head_names e s = inv ∙ ap (head_of part n) f.lines ∙ cond-false _ _ _ e ∙ cond-true _ _ _ s ∙ ap (λ q. Ok (q, lines_of (drop j bs))) (sym f.number)
+-- `find` over lines, with a closure that tests whether a line has a word
+module _ {S A F : Type 0} (left : S → Left) (view : A → ℕ × List ℕ) (g : Mut F (Bor A × Unit {0}) Bool) (f : F)
+    (law : (x : A) (b : Bool) (q : F) → CalledAt g f x b q → (q ≡ f) × (b ≡ not (is_blank (view x).1))) where
+  abbrev Steps : S → Option A → S → Type 0
+  Steps s r t = NextLine (left s) (option_map view r) (left t)
 
-    pub head_other : is_blank line ≡ false → same_words (words_of line) (words_of (names_of part)) ≡ false → says ≡ Err (Line n (Names part))
-    head_other e s = inv ∙ ap (head_of part n) f.lines ∙ cond-false _ _ _ e ∙ cond-false _ _ _ s
+  abbrev skip : Left → Left
+  skip l = skip_of l.0 l.1
 
-ahead_ahead : (vs zs : List ℤ) (r : Result (List ℤ × Left) Fault) → ahead vs (ahead zs r) ≡ ahead (vs ++ zs) r
-ahead_ahead vs zs (Ok p) = ap (λ l. Ok (l, p.1)) (sym (append_assoc vs zs p.0))
-ahead_ahead vs zs (Err e) = refl
+  passed : (xs : List A) (s t : S) (j : F) → Yields Steps s xs t → FoldsTo (λ p x q. CalledAt g p x false q) f xs j → (skip (left s) ≡ skip (left t)) × (j ≡ f)
+  passed [] s t j y z = (ap (λ s. skip (left s)) y, sym z)
+  passed (x ∷ xs) s t j (next, step, y) (k, called, z) =
+      let a = law x false k called in
+      let blank : is_blank (view x).1 ≡ true = true_from_ne_false _ (λ e. let t : false ≡ true = a.1 ∙ ap not e in cc) in
+      let here : skip (left s) ≡ skip (left next) = ap skip step.0 ∙ cond-true _ _ _ blank ∙ ap (λ n. skip_of n (left next).1) (sym step.1) in
+      let rest = passed xs next t j y (subst (λ p. FoldsTo (λ p x q. CalledAt g p x false q) p xs j) a.0 z) in
+      (here ∙ rest.0, rest.1)
 
--- a row that was read
-row_read : (vs us : List ℤ) (r : Result (List ℤ) Fault) (next : Result (List ℤ × Left) Fault) → map_ok (λ zs. vs ++ zs) r ≡ Ok us
-    → ahead vs (and_then r (λ zs. ahead zs next)) ≡ ahead us next
-row_read vs us (Ok zs) next e = let same : vs ++ zs ≡ us = cc in ahead_ahead vs zs next ∙ ap (λ l. ahead l next) same
-row_read vs us (Err b) next e = cc
-
--- where the rows of a table are read
-module _ (m width : ℕ) (bs : List ℕ) (i n : ℕ) (vs : List ℤ) (says : Result (List ℤ × Left) Fault) (inv : says ≡ ahead vs (rows_of m width n (lines_of (drop i bs)))) where
-  pub rows_end : length bs ≤ i → says ≡ Ok (vs, (n, lines_of (drop i bs)))
-  rows_end h =
-      inv ∙ at_drop_all (λ l. ahead vs (rows_of m width n (lines_of l))) bs i h ∙ ap (λ l. Ok (l, (n, []))) (append-nil vs)
-      ∙ ap (λ l. Ok (vs, (n, l))) (sym (at_drop_all lines_of bs i h))
-
-  module _ (line : List ℕ) (j k : ℕ) (f : NextLine bs i n line j k) where
-    pub rows_blank : is_blank line ≡ true → says ≡ Ok (vs, (k, lines_of (drop j bs)))
-    rows_blank e =
-        inv ∙ ap (λ l. ahead vs (rows_of m width n l)) f.lines ∙ ap (ahead vs) (cond-true _ _ _ e)
-        ∙ ap (λ l. Ok (l, (n + 1, lines_of (drop j bs)))) (append-nil vs) ∙ ap (λ q. Ok (vs, (q, lines_of (drop j bs)))) (sym f.number)
-
-    split : is_blank line ≡ false → says ≡ ahead vs (and_then (at_line n (row_of m width (words_of line))) (λ zs. ahead zs (rows_of m width k (lines_of (drop j bs)))))
-    split e =
-        inv ∙ ap (λ l. ahead vs (rows_of m width n l)) f.lines ∙ ap (ahead vs) (cond-false _ _ _ e)
-        ∙ ap (λ q. ahead vs (and_then (at_line n (row_of m width (words_of line))) (λ zs. ahead zs (rows_of m width q (lines_of (drop j bs)))))) (sym f.number)
-
-    pub rows_more : (us : List ℤ) → is_blank line ≡ false → map_ok (λ zs. vs ++ zs) (at_line n (row_of m width (words_of line))) ≡ Ok us
-        → says ≡ ahead us (rows_of m width k (lines_of (drop j bs)))
-    rows_more us e q = split e ∙ row_read vs us _ _ q
-
--- where nothing more may stand
-module _ (bs : List ℕ) (i n : ℕ) (says : Result (Unit {0}) Fault) (inv : says ≡ end_of n (lines_of (drop i bs))) where
-  pub end_none : length bs ≤ i → says ≡ Ok tt
-  end_none h = inv ∙ at_drop_all (λ l. end_of n (lines_of l)) bs i h
-
-  module _ (line : List ℕ) (j k : ℕ) (f : NextLine bs i n line j k) where
-    pub end_blank : is_blank line ≡ true → says ≡ end_of k (lines_of (drop j bs))
-    end_blank e = inv ∙ ap (end_of n) f.lines ∙ cond-true _ _ _ e ∙ ap (λ q. end_of q (lines_of (drop j bs))) (sym f.number)
-
-    pub end_extra : is_blank line ≡ false → says ≡ Err (Line n Extra)
-    end_extra e = inv ∙ ap (end_of n) f.lines ∙ cond-false _ _ _ e
+  pub find_law : (s u : S) (j : F) (xs : List A) (t : S) (r : Option A) → Yields Steps s xs t → Steps t r u → FoldsTo (λ p x q. CalledAt g p x false q) f xs j
+      → MatchOption r ⊤ (λ x. (h : F) × CalledAt g j x true h) → NextLine (skip (left s)) (option_map view r) (left u)
+  find_law s u j xs t None y e z l =
+      let same : skip (left s) ≡ left t = (passed xs s t j y z).0 ∙ ap (skip_of (left t).0) e.0 ∙ ap (λ l. ((left t).0, l)) (sym e.0) in
+      (ap (λ (l : Left). l.1) same ∙ e.0, e.1 ∙ sym same)
+  find_law s u j xs t (Some x) y e z (h, called) =
+      let p = passed xs s t j y z in
+      let a = law x true h (subst (λ q. CalledAt g q x true h) p.1 called) in
+      let full : is_blank (view x).1 ≡ false = false_from_ne_true _ (λ e. let t : true ≡ false = a.1 ∙ ap not e in cc) in
+      (p.0 ∙ ap skip e.0 ∙ cond-false _ _ _ full, e.1)

@@ -1,5 +1,6 @@
 -- The whole number that a word writes.
 use Rattle.std.specs.Prelude.{ℕ, ◌+◌, ◌-◌, ◌*◌, Bool, true, cond, ◌&&◌, List, [], ◌∷◌, ℤ, pos, neg_ℤ, Ok, Err, Result, ◌==◌, nat_le}
+use Rattle.std.specs.Char.{is_ascii_digit}
 use Rattle.tables.specs.declared.faults.Wrong.{Wrong}
 use Rattle.tables.specs.declared.faults.Wrong.TheVariants.{NotWhole, TooLarge}
 
@@ -11,7 +12,7 @@ map_ok f (Err e) = Err e
 -- each byte is a digit
 abbrev pub digits : List ℕ → Bool
 digits [] = true
-digits (c ∷ cs) = (nat_le 48 c && nat_le c 57) && digits cs
+digits (c ∷ cs) = is_ascii_digit c && digits cs
 
 -- the number that the digits cs write after the number n
 abbrev pub decimal : ℕ → List ℕ → ℕ

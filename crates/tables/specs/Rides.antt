@@ -1,8 +1,9 @@
 -- The tables of a ride, and the first thing wrong with them. A text has three tables: checkpoints, samples and settings, each a line of names and rows of
 -- whole numbers under it. A table's rows end at a blank line or the end of the text, and before the names of a table any number of blank lines may stand. The
 -- text is read from top to bottom, and what is found first is told, with its line.
-use Rattle.std.specs.Prelude.{◌≡◌, ℕ, zero, suc, ◌+◌, ◌-◌, ◌*◌, ◌^◌, ◌<◌, ◌≤◌, min, Bool, false, cond, ◌||◌, ◌⊎◌, List, [], ◌∷◌, length, ℤ, pos, negsuc, ◌+ℤ◌, Ok, Err, Result, ◌==◌, slice_index_or, unsigned_abs}
+use Rattle.std.specs.Prelude.{◌≡◌, ℕ, zero, suc, ◌+◌, ◌-◌, ◌*◌, ◌^◌, ◌<◌, ◌≤◌, min, cond, ◌||◌, ◌⊎◌, List, [], ◌∷◌, length, ℤ, pos, ◌+ℤ◌, Ok, Err, Result, slice_index_or, unsigned_abs}
 use Rattle.std.specs.List.{AllByRecursion}
+use Rattle.std.specs.Ordering.{int_eq}
 use Rattle.tables.specs.declared.faults.Wrong.TheVariants.{Extra, Order, NoCheckpoint, NoSettings}
 use Rattle.tables.specs.declared.faults.Part.TheVariants.{Checkpoints, Samples, Settings}
 use Rattle.tables.specs.declared.faults.Fault.{Fault}
@@ -10,12 +11,6 @@ use Rattle.tables.specs.declared.faults.Fault.TheVariants.{Line}
 use Rattle.tables.specs.Numbers.{map_ok}
 use Rattle.tables.specs.Tables.{Left, and_then, at_line, row_of, head_of, rows_of}
 use Rattle.tables.specs.Text.{lines_of, words_of, is_blank}
-
-abbrev pub eq_z : ℤ → ℤ → Bool
-eq_z (pos a) (pos b) = a == b
-eq_z (pos a) (negsuc b) = false
-eq_z (negsuc a) (pos b) = false
-eq_z (negsuc a) (negsuc b) = a == b
 
 -- of numbers in rows of seven, the first of each row, the segment; k numbers are left of the row that has begun
 abbrev pub segments : ℕ → List ℤ → List ℤ
@@ -26,12 +21,12 @@ segments (suc k) (z ∷ zs) = segments k zs
 -- after the segment p, from the n-th line on: each segment is the one before or the next one
 abbrev pub steps_of : ℕ → ℤ → List ℤ → Result (Unit {0}) Fault
 steps_of n p [] = Ok tt
-steps_of n p (s ∷ ss) = cond (eq_z s p || eq_z s (p +ℤ pos 1)) (steps_of (n + 1) s ss) (Err (Line n Order))
+steps_of n p (s ∷ ss) = cond (int_eq s p || int_eq s (p +ℤ pos 1)) (steps_of (n + 1) s ss) (Err (Line n Order))
 
 -- the first segment is 0
 abbrev pub start_of : ℕ → List ℤ → Result (Unit {0}) Fault
 start_of n [] = Err (Line (n - 1) NoCheckpoint)
-start_of n (s ∷ ss) = cond (eq_z s (pos 0)) (steps_of (n + 1) s ss) (Err (Line n Order))
+start_of n (s ∷ ss) = cond (int_eq s (pos 0)) (steps_of (n + 1) s ss) (Err (Line n Order))
 
 -- the rows of checkpoints, from the n-th line on, are in order; without one the line of the names is told
 abbrev pub order_of : ℕ → List ℤ → Result (Unit {0}) Fault

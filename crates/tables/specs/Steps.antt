@@ -1,18 +1,14 @@
--- What one step of the reader finds: a word, or a line.
-use Rattle.std.specs.Prelude.{◌≡◌, ℕ, ◌+◌, ◌-◌, ◌<◌, ◌≤◌, List, [], ◌∷◌, length, take, drop}
-use Rattle.tables.specs.Text.{lines_of, words_of}
+-- What one step of the reader finds: a line, or a line that has a word.
+use Rattle.std.specs.Prelude.{◌≡◌, ℕ, ◌+◌, cond, Some, None, Option, List, [], ◌∷◌}
+use Rattle.tables.specs.Tables.{Left}
+use Rattle.tables.specs.Text.{is_blank}
 
--- the next word of a line at or after the place i stands from s to e; where there is none, s is e
-pub record NextWord (line : List ℕ) (i s e : ℕ) : Type 0 where
-  pub turn : s ≤ e
-  pub within : e ≤ length line
-  pub last : s ≡ e → words_of (drop i line) ≡ []
-  pub after : s < e → i ≤ s
-  pub more : s < e → words_of (drop i line) ≡ take (e - s) (drop s line) ∷ words_of (drop e line)
+-- the next line with its number, and the lines that are left after it; where no line is left there is none, and nothing changes
+abbrev pub NextLine : Left → Option (ℕ × List ℕ) → Left → Type 0
+NextLine before None after = (before.1 ≡ []) × (after ≡ before)
+NextLine before (Some line) after = (before ≡ (line.0, line.1 ∷ after.1)) × (after.0 ≡ line.0 + 1)
 
--- the line at the place `from`, the n-th, is `line`; the next one, the m-th, starts at `to`
-pub record NextLine (bs : List ℕ) (from n : ℕ) (line : List ℕ) (to m : ℕ) : Type 0 where
-  pub lines : lines_of (drop from bs) ≡ line ∷ lines_of (drop to bs)
-  pub onward : from < to
-  pub within : to ≤ length bs
-  pub number : m ≡ n + 1
+-- the lines from the first on that is not blank; the first that is given is the n-th
+abbrev pub skip_of : ℕ → List (List ℕ) → Left
+skip_of n [] = (n, [])
+skip_of n (l ∷ ls) = cond (is_blank l) (skip_of (n + 1) ls) (n, l ∷ ls)

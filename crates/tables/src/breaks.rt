@@ -12,11 +12,11 @@ pub fn next_break(input: &[u8], from: usize) -> usize
     ensures place { result ≡ next_break input.now from }
     ensures first { First is_break input.now from result }
 {
-    for i in from..input.len() {
-        let b = input[i];
-        if b == BLANK || b == LINE_END {
-            return i;
-        }
+    let Some(rest) = input.get(from..) else {
+        return input.len();
+    };
+    match rest.iter().position(|b| *b == BLANK || *b == LINE_END) {
+        Some(n) => from + n,
+        None => input.len(),
     }
-    input.len()
 }

@@ -40,6 +40,7 @@ pub enum Fault {
     Line(usize, Wrong),
 }
 
+// Written by hand, since `read` says of want of memory that it is told as `Memory`.
 impl From<AllocError> for Fault {
     ghost from_gives = { λ _ r. r ≡ Memory };
 

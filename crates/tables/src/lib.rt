@@ -8,7 +8,6 @@ mod lines;
 mod message;
 mod number;
 mod order;
-mod place;
 mod points;
 mod reader;
 mod row;

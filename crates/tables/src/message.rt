@@ -1,6 +1,6 @@
 // What is told of a fault.
 use crate::faults::{Fault, Wrong};
-use crate::table::names;
+use std::error::Error;
 use std::fmt;
 
 impl fmt::Display for Wrong {
@@ -11,11 +11,11 @@ impl fmt::Display for Wrong {
             Wrong::TooFew => f.write_str("too few numbers"),
             Wrong::TooMany => f.write_str("too many numbers"),
             Wrong::Names(part) => {
-                let expected = names(part);
+                let expected = part.names();
                 write!(f, "the names '{expected}' are expected here")
             }
             Wrong::Missing(part) => {
-                let expected = names(part);
+                let expected = part.names();
                 write!(f, "the table '{expected}' is missing")
             }
             Wrong::Extra => f.write_str("nothing may follow the row of settings"),
@@ -36,3 +36,5 @@ impl fmt::Display for Fault {
         }
     }
 }
+
+impl Error for Fault {}

@@ -1,43 +1,27 @@
 // A row of numbers.
-ghost use Rattle.std.specs.Prelude.{◌^◌, ◌<◌, ◌++◌};
-ghost use Rattle.tables.specs.Numbers.{map_ok};
-ghost use Rattle.tables.specs.Tables.{Tells, at_line, row_of};
+ghost use Rattle.std.specs.Prelude.{◌≡◌};
+ghost use Rattle.tables.specs.Tables.{row_of};
 ghost use Rattle.tables.specs.Text.{words_of};
 
-use crate::faults::{Fault, Wrong};
-use crate::number::whole;
-use crate::words::{Word, next_word};
+use crate::faults::Wrong;
+use crate::number::Limit;
+use crate::words::Words;
 
-// Reads the line, which has `width` numbers, onto `out`. The words are read from left to right, so a bad word within the
-// width is told before that there are too few or too many.
-pub(crate) fn row(
-    out: &mut Vec<i64>,
-    line: &[u8],
-    number: usize,
-    width: usize,
-    limit: u64,
-) -> Result<(), Fault>
-    requires { limit < 2 ^ 63 }
-    ensures { Tells (map_ok (λ zs. out.old.items ++ zs) (at_line number (row_of limit width (words_of line.now)))) (map_ok (λ _. out.new.items) result) }
+// Reads a line of W numbers. The words are read from left to right, so a bad word within the width is told before that
+// there are too few or too many.
+pub(crate) fn row<const W: usize>(line: &[u8], limit: Limit) -> Result<[i64; W], Wrong>
+    ensures { result ≡ row_of limit.most W (words_of line.now) }
 {
-    let mut at = 0;
-    let mut left = width;
-    while left > 0 {
-        let Word { start, end } = next_word(line, at);
-        if start == end {
-            return Err(Fault::Line(number, Wrong::TooFew));
-        }
-        match whole(&line[start..end], limit) {
-            Ok(z) => out.push(z)?,
-            Err(wrong) => return Err(Fault::Line(number, wrong)),
-        }
-        at = end;
-        left -= 1;
+    let mut words = Words::new(line);
+    let mut row = [0; W];
+    for z in row.iter_mut() {
+        let Some(word) = words.next() else {
+            return Err(Wrong::TooFew);
+        };
+        *z = limit.whole(word)?;
     }
-    let rest = next_word(line, at);
-    if rest.start == rest.end {
-        Ok(())
-    } else {
-        Err(Fault::Line(number, Wrong::TooMany))
+    match words.next() {
+        Some(_) => Err(Wrong::TooMany),
+        None => Ok(row),
     }
 }

@@ -14,8 +14,8 @@ mod tests {
     fn told(heap: Global, text: &[u8]) -> Result<String, AllocError> {
         match read(heap, text, LARGEST) {
             Ok(ride) => {
-                let checkpoints = ride.checkpoints.len();
-                let samples = ride.samples.len();
+                let checkpoints = ride.checkpoints.as_slice().concat(heap)?.len();
+                let samples = ride.samples.as_slice().concat(heap)?.len();
                 let settings = ride.settings.len();
                 format!(in heap; "{checkpoints} {samples} {settings}")
             }
@@ -86,9 +86,9 @@ mod tests {
             return Err(Fail::new("refused"));
         };
         let expected: [i64; 7] = [0, -5, 7, 0, 9007199254740992, -9007199254740992, 6];
-        assert!(rt; ride.checkpoints.as_slice() == expected.as_slice());
+        assert!(rt; ride.checkpoints.as_slice() == [expected].as_slice());
         let settings: [i64; 5] = [0, 1, 2, 3, 4];
-        assert!(rt; ride.settings.as_slice() == settings.as_slice());
+        assert!(rt; ride.settings == settings);
         Ok(())
     }
 
