@@ -1,5 +1,5 @@
 -- What a reset comes to, from what its parts do.
-use Rattle.std.proofs.Common.{◌≡◌, ℕ, ◌*◌, ◌<◌, Bool, true, false, cond, ltb, List, ◌++◌, take, drop, Some, None, Ok, Err, Option, Result, sym, refl, ap, ◌∙◌, subst, arith}
+use Rattle.std.proofs.Common.{◌≡◌, ℕ, ◌*◌, ◌<◌, Bool, true, false, cond, ltb, List, Some, None, Ok, Err, Option, Result, sym, refl, ap, ◌∙◌, subst, arith}
 use Rattle.std.proofs.lemmas.Bool.{ltb-true}
 use Rattle.scalar.specs.Ops.{Ops}
 use Rattle.equations.specs.Model.{Model, and_then}
@@ -7,10 +7,10 @@ use Rattle.equations.specs.declared.op.Op.TheVariants.{Root, Reset}
 use Rattle.equations.specs.declared.op.Wrt.TheVariants.{Parameters}
 use Rattle.adjoint.specs.declared.faults.RuleFault.{RuleFault}
 use Rattle.adjoint.specs.declared.faults.RuleFault.TheVariants.{NoReset, NoRoot, RootIndex}
-use Rattle.adjoint.specs.declared.lanes.Mode.TheVariants.{Become, Lose, Gain}
-use Rattle.adjoint.specs.Lanes.{with_products}
+use Rattle.adjoint.specs.declared.work.Work.{Work}
+use Rattle.adjoint.specs.Sizes.{Made}
 use Rattle.adjoint.specs.Rules.{Does, states}
-use Rattle.adjoint.specs.Reset.{Terms, entries_at, terms_at, alphas, crossed, reset_at, rooted}
+use Rattle.adjoint.specs.Reset.{Terms, entries_at, terms_at, alphas, crossed, crossed_by, reset_at, rooted}
 
 does_ok : {N F : Type 0} (x : Result (List N) F) (v new : List N) → x ≡ Ok new → Does x (Ok tt) v new
 does_ok {N} {F} x v new e = subst (λ (y : Result (List N) F). Does y (Ok tt) v new) (sym e) (refl, refl)
@@ -27,25 +27,11 @@ resets {N} {T} {F} o m channels r t y below above v k pp qp new a b c e =
     ∙ ap (λ x. and_then x (λ qp. Ok (crossed o m channels k pp qp (alphas o k.gap k.rate m.roots r m.states (states o m channels v) channels) v))) c
     ∙ ap Ok (sym e))
 
--- what crossing leaves, where the lengths of what was lent are the sizes
-module _ {N T F : Type 0} (o : Ops N) (m : Model N T F) (n r : ℕ) (k : Terms N) (pp qp : List N) where
-  abbrev part : ℕ → ℕ → ℕ → List N → List N → List N → List N → List N
-  part ns np nr old β s sg = with_products o Lose k.reset ns ns old n (with_products o Become k.root ns nr β n s) ++ with_products o Gain qp np nr β n (with_products o Lose pp np ns old n sg)
-
-  pub crosses : (v old β new : List N) (ns np nr mid : ℕ) → ns ≡ m.states → np ≡ m.parameters → nr ≡ m.roots → mid ≡ n * m.states → old ≡ take mid v
-      → β ≡ alphas o k.gap k.rate nr r ns old n → new ≡ part ns np nr old β (take mid v) (drop mid v)
-      → new ≡ crossed o m n k pp qp (alphas o k.gap k.rate m.roots r m.states (states o m n v) n) v
-  crosses v old β new ns np nr mid ens enp enr emid eold eβ e =
-      let first : old ≡ states o m n v = eold ∙ ap (λ i. take i v) emid in
-      let alpha : β ≡ alphas o k.gap k.rate m.roots r m.states (states o m n v) n =
-      eβ ∙ ap (λ i. alphas o k.gap k.rate i r ns old n) enr ∙ ap (λ i. alphas o k.gap k.rate m.roots r i old n) ens ∙ ap (λ s. alphas o k.gap k.rate m.roots r m.states s n) first in
-      e
-      ∙ ap (λ i. part i np nr old β (take mid v) (drop mid v)) ens
-      ∙ ap (λ i. part m.states i nr old β (take mid v) (drop mid v)) enp
-      ∙ ap (λ i. part m.states m.parameters i old β (take mid v) (drop mid v)) enr
-      ∙ ap (λ s. part m.states m.parameters m.roots s β (take mid v) (drop mid v)) first
-      ∙ ap (λ a. part m.states m.parameters m.roots (states o m n v) a (take mid v) (drop mid v)) alpha
-      ∙ ap (λ i. part m.states m.parameters m.roots (states o m n v) (alphas o k.gap k.rate m.roots r m.states (states o m n v) n) (take i v) (drop i v)) emid
+-- what crossing leaves, with space that is made for the model
+pub crosses : {N T F : Type 0} (o : Ops N) (m : Model N T F) (w : Work N) (r : ℕ) (rate : N) (v : List N) → Made m w.sizes.channels w.sizes
+    → crossed_by o r rate w v ≡ crossed o m w.sizes.channels (record { reset = w.crossing.reset_by_state.items; root = w.crossing.root_by_state.items; gap = w.crossing.gap.items; rate = rate }) w.by_parameter.items w.root_by_parameter.items (alphas o w.crossing.gap.items rate m.roots r m.states (states o m w.sizes.channels v) w.sizes.channels) v
+crosses o m w r rate v h =
+    rw (← h.states, ← h.parameters, ← h.roots) refl
 
 -- the root that is crossed is one of the model's
 pub root_below : {N T F : Type 0} (o : Ops N) (m : Model N T F) (segment : ℕ) (root : Option ℕ) (r : ℕ) → Ok r ≡ rooted o m segment root → r < m.roots

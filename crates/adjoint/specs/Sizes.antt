@@ -29,6 +29,14 @@ abbrev pub made_for : {N T F : Type 0} → Model N T F → ℕ → Sizes → Boo
 made_for m channels s =
     (s.channels == channels) && (s.states == m.states && (s.parameters == m.parameters && (s.outputs == rows_of m && s.roots == m.roots)))
 
+-- so said, as the equations that it stands for
+pub record Made {N T F : Type 0} (m : Model N T F) (n : ℕ) (s : Sizes) : Type 0 where
+  pub channels : s.channels ≡ n
+  pub states : s.states ≡ m.states
+  pub parameters : s.parameters ≡ m.parameters
+  pub outputs : s.outputs ≡ rows_of m
+  pub roots : s.roots ≡ m.roots
+
 -- what measuring a model answers
 abbrev pub Sized : {N T F : Type 0} → Model N T F → ℕ → Result Sizes WrongSize → Type 0
 Sized m channels (Ok s) = (first_wrong (limits m channels) ≡ Ok tt) × (s.channels ≡ channels) × (s.states ≡ m.states) × (s.parameters ≡ m.parameters) × (s.outputs ≡ rows_of m) × (s.roots ≡ m.roots)

@@ -47,23 +47,29 @@ fn lane_at<N: Scalar>(
     lane_product(mode, m, v, &mut parts[a..a + w], product);
 }
 
-// Each of `lanes` parts, all of one width, becomes, loses or gains the transposed product of the matrix with the lane's
-// own vector, which has as many numbers as the matrix has rows.
-pub(crate) fn with_products<N: Scalar>(
-    mode: Mode,
-    m: &[N],
-    rows: usize,
-    vectors: &[N],
-    lanes: usize,
-    parts: &mut [N],
-    product: &mut [N],
-)
-    requires { (length m.now ≡ rows * length product.old) × ((length vectors.now ≡ lanes * rows) × (length parts.old ≡ lanes * length product.old)) }
-    ensures { parts.new ≡ with_products N.Scalar.kind.ops mode m.now (length product.old) rows vectors.now lanes parts.old }
-{
-    let w = product.len();
-    for i in 0..lanes {
-        let b = i * rows;
-        lane_at(mode, m, &vectors[b..b + rows], parts, i * w, w, product);
+// A product that every lane meets: of one matrix, which lies row by row and is as wide as a lane's part, and the lane's own
+// vector, which has as many numbers as the matrix has rows.
+#[derive(Clone, Copy)]
+pub(crate) struct Product<'m, 'v, N> {
+    pub(crate) mode: Mode,
+    pub(crate) matrix: &'m [N],
+    pub(crate) rows: usize,
+    pub(crate) vectors: &'v [N],
+}
+
+impl<'m, 'v, N: Scalar> Product<'m, 'v, N> {
+    // Each of `lanes` parts becomes, loses or gains the transposed product. `space` is as wide as a part.
+    #[tactic(auto, using(scalar::proofs::Rows::row_within))]
+    pub(crate) fn meet(&self, lanes: usize, parts: &mut [N], space: &mut [N])
+        requires { (length self.now.matrix.now ≡ self.now.rows * length space.old) × ((length self.now.vectors.now ≡ lanes * self.now.rows) × (length parts.old ≡ lanes * length space.old)) }
+        ensures { parts.new ≡ with_products N.Scalar.kind.ops self.now.mode self.now.matrix.now (length space.old) self.now.rows self.now.vectors.now lanes parts.old }
+    {
+        let w = space.len();
+        for i in 0..lanes {
+            let b = i * self.rows;
+            let vector = &self.vectors[b..b + self.rows];
+            // the lane's part starts inside the lent slice, so its place is handed on with the slice
+            lane_at(self.mode, self.matrix, vector, parts, i * w, w, space);
+        }
     }
 }

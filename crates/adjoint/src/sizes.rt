@@ -2,7 +2,9 @@
 ghost use Rattle.std.specs.Prelude.{◌≡◌, ◌+◌, ◌*◌, ◌++◌, ◌==◌};
 ghost use Rattle.refusals.specs.Sizes.{first_wrong};
 ghost use Rattle.adjoint.specs.Sizes.{Sized, within as is_within, rows_of, made_for, limits};
+ghost use Rattle.adjoint.specs.Rules.{sized};
 
+use crate::faults::RuleFault;
 use crate::measures::Sizes;
 use equations::OdeEquations;
 use refusals::sizes::{Size, WrongSize, first_wrong};
@@ -12,10 +14,7 @@ use scalar::Scalar;
 pub(crate) fn outputs<N: Scalar, E: OdeEquations<N>>(eqn: &E) -> usize
     ensures { result ≡ rows_of (E.OdeEquations.model eqn.now) }
 {
-    match eqn.nout() {
-        Some(rows) => rows,
-        None => eqn.nstates(),
-    }
+    eqn.nout().unwrap_or(eqn.nstates())
 }
 
 fn within(low: usize, n: usize, high: usize) -> bool
@@ -24,27 +23,14 @@ fn within(low: usize, n: usize, high: usize) -> bool
     low <= n && n <= high
 }
 
-// Whether there are rows × columns entries.
-pub(crate) fn is_filled(entries: usize, rows: usize, columns: usize) -> bool
-    ensures { result ≡ (entries == rows * columns) }
-{
-    match rows.checked_mul(columns) {
-        Some(n) => entries == n,
-        None => false,
-    }
-}
-
 // Whether there are so many entries, in n parts of one width and n of another.
 pub(crate) fn is_both(entries: usize, n: usize, width: usize, other: usize) -> bool
     ensures { result ≡ (entries == n * width + n * other) }
 {
-    match (n.checked_mul(width), n.checked_mul(other)) {
-        (Some(a), Some(b)) => match a.checked_add(b) {
-            Some(both) => entries == both,
-            None => false,
-        },
-        _ => false,
-    }
+    n.checked_mul(width)
+        .zip(n.checked_mul(other))
+        .and_then(|(a, b)| a.checked_add(b))
+        == Some(entries)
 }
 
 // The sizes within their limits, then the lengths.
@@ -52,11 +38,14 @@ pub(crate) fn all_fit<N: Scalar, E: OdeEquations<N>>(
     eqn: &E,
     channels: usize,
     lengths: &[(bool, Size)],
-) -> Result<(), WrongSize>
-    ensures { result ≡ first_wrong (limits (E.OdeEquations.model eqn.now) channels ++ lengths.now) }
+) -> Result<(), RuleFault<E::Fault>>
+    ensures { result ≡ sized (first_wrong (limits (E.OdeEquations.model eqn.now) channels ++ lengths.now)) (Ok tt) }
 {
-    let _ = Sizes::of(eqn, channels)?;
-    first_wrong(lengths)
+    // `map_err` has no proof here: what it passes on names the model's fault, which no argument of it does
+    match Sizes::of(eqn, channels).and_then(|_| first_wrong(lengths)) {
+        Ok(()) => Ok(()),
+        Err(w) => Err(RuleFault::Size(w)),
+    }
 }
 
 impl Sizes {
