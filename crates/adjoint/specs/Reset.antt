@@ -14,6 +14,7 @@ use Rattle.adjoint.specs.declared.faults.RuleFault.{RuleFault}
 use Rattle.adjoint.specs.declared.faults.RuleFault.TheVariants.{NoRootIndex, NoReset, NoRoot, RootIndex, SmallDenominator}
 use Rattle.adjoint.specs.declared.lanes.Mode.TheVariants.{Become, Lose, Gain}
 use Rattle.adjoint.specs.declared.measures.Sizes.{Sizes}
+use Rattle.adjoint.specs.declared.reset.Boundary.{Boundary}
 use Rattle.adjoint.specs.declared.work.Work.{Work}
 use Rattle.adjoint.specs.Sizes.{limits}
 use Rattle.adjoint.specs.Lanes.{lane_of, with_products}
@@ -90,15 +91,15 @@ module _ {N T F : Type 0} (o : Ops N) (m : Model N T F) where
       cond (small o (rate_of o q qt below m.roots r)) (Err SmallDenominator) (Ok (record { reset = p; root = q; gap = gap_of o p pt below above m.states; rate = rate_of o q qt below m.roots r }))))))
 
   -- An answer of the rate at which root r is crossed: working space holds the boundary's derivatives then.
-  abbrev pub Derives : ℕ → T → List N → List N → List N → Result N (RuleFault F) → Work N → Type 0
-  Derives r t y below above (Ok rate) w =
-      (terms_at r t y below above ≡ Ok (record { reset = w.crossing.reset_by_state.items; root = w.crossing.root_by_state.items; gap = w.crossing.gap.items; rate = rate }))
-      × (entries_at Reset Parameters m.parameters t y (m.states * m.parameters) ≡ Ok w.by_parameter.items)
-      × (entries_at Root Parameters m.parameters t y (m.roots * m.parameters) ≡ Ok w.root_by_parameter.items)
-  Derives r t y below above (Err e) w =
-      and_then (terms_at r t y below above) (λ k.
-      and_then (entries_at Reset Parameters m.parameters t y (m.states * m.parameters)) (λ pp.
-      entries_at Root Parameters m.parameters t y (m.roots * m.parameters)))
+  abbrev pub Derives : ℕ → Boundary N T → Result N (RuleFault F) → Work N → Type 0
+  Derives r b (Ok rate) w =
+      (terms_at r b.t b.y.now b.below.now b.above.now ≡ Ok (record { reset = w.crossing.reset_by_state.items; root = w.crossing.root_by_state.items; gap = w.crossing.gap.items; rate = rate }))
+      × (entries_at Reset Parameters m.parameters b.t b.y.now (m.states * m.parameters) ≡ Ok w.by_parameter.items)
+      × (entries_at Root Parameters m.parameters b.t b.y.now (m.roots * m.parameters) ≡ Ok w.root_by_parameter.items)
+  Derives r b (Err e) w =
+      and_then (terms_at r b.t b.y.now b.below.now b.above.now) (λ k.
+      and_then (entries_at Reset Parameters m.parameters b.t b.y.now (m.states * m.parameters)) (λ pp.
+      entries_at Root Parameters m.parameters b.t b.y.now (m.roots * m.parameters)))
       ≡ Err e
 
   module _ (channels : ℕ) where

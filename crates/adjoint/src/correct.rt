@@ -1,7 +1,7 @@
 // The correction of the gradients at the model's start.
 ghost use Rattle.std.specs.Prelude.{◌≡◌, ◌+◌, ◌*◌, length};
 ghost use Rattle.adjoint.specs.Rules.{Does, corrected, correction};
-ghost use Rattle.adjoint.specs.Sizes.{Made};
+ghost use Rattle.adjoint.specs.Sizes.{Made, vector_length};
 
 use crate::faults::RuleFault;
 use crate::lanes::{Mode, Product};
@@ -20,8 +20,8 @@ fn correct_lanes<N: Scalar + Drop, E: OdeEquations<N>>(
     v: &mut [N],
     work: &mut Work<N>,
 ) -> Result<(), E::Fault>
-    requires space { Made (E.OdeEquations.model eqn.now) work.now.sizes.channels work.now.sizes }
-    requires both { length v.old ≡ work.now.sizes.channels * work.now.sizes.states + work.now.sizes.channels * work.now.sizes.parameters }
+    requires space { Made (E.OdeEquations.model eqn.now) work.now.sizes }
+    requires both { length v.old ≡ vector_length work.now.sizes }
     ensures rule { Does (corrected N.Scalar.kind.ops (E.OdeEquations.model eqn.now) work.entry.now.sizes.channels start v.old) result v.old v.new }
     ensures space { work.exit.now.sizes ≡ work.entry.now.sizes }
 {

@@ -1,6 +1,7 @@
 // What a boundary gives to every lane.
 ghost use Rattle.std.specs.Prelude.{◌≡◌, ◌+◌, ◌*◌, ◌<◌, ◌≤◌, length, if◌then◌else◌, nat_eq};
 ghost use borrow.Rule.Slice.PartMut.{put_mid};
+ghost use Rattle.adjoint.specs.Lanes.{lane_of};
 ghost use Rattle.adjoint.specs.Reset.{gap_of, rate_of, small, alpha as alpha_of, at_root, alphas, rooted, entries_at, terms_at, terms_of};
 ghost use Rattle.adjoint.specs.Rules.{cells_of};
 
@@ -14,28 +15,42 @@ use scalar::Scalar;
 use scalar::matrix::product;
 use scalar::vectors::{add_assign, dot, sub_assign};
 
-// Refusals 9 to 12, in their order.
-pub(crate) fn root_of<N: Scalar, E: OdeEquations<N>>(
-    eqn: &E,
-    segment: usize,
-    root: Option<usize>,
-) -> Result<usize, RuleFault<E::Fault>>
-    ensures { result ≡ rooted N.Scalar.kind.ops (E.OdeEquations.model eqn.now) segment root }
-{
-    // `ok_or` lets the fault go where there is a root, and not every model's fault may be let go
-    let Some(r) = root else {
-        return Err(RuleFault::NoRootIndex(segment));
-    };
-    if !eqn.has_reset() {
-        return Err(RuleFault::NoReset(segment));
+impl<'a, N: Scalar> Boundary<'a, N> {
+    // The root that is crossed, or refusals 9 to 12, in their order.
+    pub(crate) fn root_of<E: OdeEquations<N>>(&self, eqn: &E) -> Result<usize, RuleFault<E::Fault>>
+        ensures { result ≡ rooted N.Scalar.kind.ops (E.OdeEquations.model eqn.now) self.now.segment self.now.root }
+    {
+        // `ok_or` lets the fault go where there is a root, and not every model's fault may be let go
+        let Some(r) = self.root else {
+            return Err(RuleFault::NoRootIndex(self.segment));
+        };
+        if !eqn.has_reset() {
+            return Err(RuleFault::NoReset(self.segment));
+        }
+        if eqn.nroots() == 0 {
+            return Err(RuleFault::NoRoot(self.segment));
+        }
+        if r < eqn.nroots() {
+            Ok(r)
+        } else {
+            Err(RuleFault::RootIndex(r))
+        }
     }
-    if eqn.nroots() == 0 {
-        return Err(RuleFault::NoRoot(segment));
-    }
-    if r < eqn.nroots() {
-        Ok(r)
-    } else {
-        Err(RuleFault::RootIndex(r))
+
+    // The entries of one function there, as a matrix; at a refusal what `out` holds is free.
+    pub(crate) fn gather<E: OdeEquations<N>>(
+        &self,
+        eqn: &E,
+        op: Op,
+        wrt: Wrt,
+        columns: usize,
+        out: &mut [N],
+    ) -> Result<(), RuleFault<E::Fault>>
+        requires { columns ≡ 0 → length out.old ≡ 0 }
+        ensures { entries_at N.Scalar.kind.ops (E.OdeEquations.model eqn.now) op wrt columns self.now.t self.now.y.now (length out.old) ≡ cells_of result out.new }
+    {
+        gather(eqn, op, wrt, columns, self.t, self.y, out)?;
+        Ok(())
     }
 }
 
@@ -96,45 +111,29 @@ impl<'a, N: Scalar> Alphas<'a, N> {
         dot(s, self.gap) / self.rate
     }
 
-    // One lane, which has s: its α, into the places of `out` from a on.
-    fn fill_lane(&self, s: &[N], out: &mut [N], a: usize)
-        requires { a + self.now.roots ≤ length out.old }
-        ensures { out.new ≡ put_mid a self.now.roots out.old (at_root N.Scalar.kind.ops self.now.roots self.now.root (alpha_of N.Scalar.kind.ops self.now.gap.now self.now.rate s.now)) }
+    // Lane i of all s: its α, into its own places of `out`.
+    fn fill_lane(&self, i: usize, s: &[N], out: &mut [N])
+        requires states { i * length self.now.gap.now + length self.now.gap.now ≤ length s.now }
+        requires roots { i * self.now.roots + self.now.roots ≤ length out.old }
+        ensures { out.new ≡ put_mid (i * self.now.roots) self.now.roots out.old (at_root N.Scalar.kind.ops self.now.roots self.now.root (alpha_of N.Scalar.kind.ops self.now.gap.now self.now.rate (lane_of (length self.now.gap.now) s.now i))) }
     {
-        let alpha = self.alpha(s);
-        fill_at_root(&mut out[a..a + self.roots], self.root, alpha);
+        let a = i * self.gap.len();
+        let b = i * self.roots;
+        let alpha = self.alpha(&s[a..a + self.gap.len()]);
+        fill_at_root(&mut out[b..b + self.roots], self.root, alpha);
     }
 
-    // Every lane of all s, with as many places as there are roots.
+    // Every lane, with as many places as there are roots.
     #[tactic(auto, using(scalar::proofs::Rows::row_within))]
     pub(crate) fn fill(&self, s: &[N], lanes: usize, out: &mut [N])
         requires { (length s.now ≡ lanes * length self.now.gap.now) × (length out.old ≡ lanes * self.now.roots) }
         ensures { out.new ≡ alphas N.Scalar.kind.ops self.now.gap.now self.now.rate self.now.roots self.now.root (length self.now.gap.now) s.now lanes }
     {
-        let w = self.gap.len();
+        // a lane's places start inside the lent slice, so which lane it is is handed on with the slice
         for i in 0..lanes {
-            let b = i * w;
-            // the lane's places start inside the lent slice, so where is handed on with the slice
-            self.fill_lane(&s[b..b + w], out, i * self.roots);
+            self.fill_lane(i, s, out);
         }
     }
-}
-
-// The entries of one function as a matrix; at a refusal what `out` holds is free.
-pub(crate) fn gather_matrix<N: Scalar, E: OdeEquations<N>>(
-    eqn: &E,
-    op: Op,
-    wrt: Wrt,
-    columns: usize,
-    t: N::Time,
-    x: &[N],
-    out: &mut [N],
-) -> Result<(), RuleFault<E::Fault>>
-    requires { columns ≡ 0 → length out.old ≡ 0 }
-    ensures { entries_at N.Scalar.kind.ops (E.OdeEquations.model eqn.now) op wrt columns t x.now (length out.old) ≡ cells_of result out.new }
-{
-    gather(eqn, op, wrt, columns, t, x, out)?;
-    Ok(())
 }
 
 impl<N: Scalar + Drop> Crossing<N> {
@@ -152,22 +151,16 @@ impl<N: Scalar + Drop> Crossing<N> {
         ensures terms { terms_at N.Scalar.kind.ops (E.OdeEquations.model eqn.now) r boundary.now.t boundary.now.y.now boundary.now.below.now boundary.now.above.now ≡ terms_of result self.exit.now.reset_by_state.items self.exit.now.root_by_state.items self.exit.now.gap.items }
         ensures sizes { (self.exit.now.states ≡ self.entry.now.states) × (self.exit.now.roots ≡ self.entry.now.roots) }
     {
-        let Boundary {
-            t,
-            y,
-            below,
-            above,
-            ..
-        } = *boundary;
         let p = self.reset_by_state.as_mut_slice();
         let pt = self.reset_by_time.as_mut_slice();
         let q = self.root_by_state.as_mut_slice();
         let qt = self.root_by_time.as_mut_slice();
-        gather_matrix(eqn, Op::Reset, Wrt::States, self.states, t, y, p)?;
-        gather_matrix(eqn, Op::Reset, Wrt::TimeOnly, 1, t, y, pt)?;
-        gather_matrix(eqn, Op::Root, Wrt::States, self.states, t, y, q)?;
-        gather_matrix(eqn, Op::Root, Wrt::TimeOnly, 1, t, y, qt)?;
-        slope_gap(p, pt, below, above, self.gap.as_mut_slice());
+        boundary.gather(eqn, Op::Reset, Wrt::States, self.states, p)?;
+        boundary.gather(eqn, Op::Reset, Wrt::TimeOnly, 1, pt)?;
+        boundary.gather(eqn, Op::Root, Wrt::States, self.states, q)?;
+        boundary.gather(eqn, Op::Root, Wrt::TimeOnly, 1, qt)?;
+        let below = boundary.below;
+        slope_gap(p, pt, below, boundary.above, self.gap.as_mut_slice());
         let rate = crossing_rate(q, qt, below, r, self.rates.as_mut_slice());
         if is_small(rate) {
             return Err(RuleFault::SmallDenominator);

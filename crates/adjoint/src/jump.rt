@@ -2,7 +2,7 @@
 ghost use Rattle.std.specs.Prelude.{◌≡◌, ◌+◌, ◌*◌, ◌≤◌, ◌++◌, length, take, drop, Some};
 ghost use Rattle.scalar.specs.Vectors.{placewise};
 ghost use Rattle.adjoint.specs.Rules.{Does, jumped_by, jump as jump_of};
-ghost use Rattle.adjoint.specs.Sizes.{Made};
+ghost use Rattle.adjoint.specs.Sizes.{Made, vector_length};
 
 use crate::faults::RuleFault;
 use crate::lanes::{Mode, Product};
@@ -16,46 +16,42 @@ use scalar::Scalar;
 use scalar::matrix::fills;
 use scalar::vectors::add_assign;
 
+// An instant, with the forward state there and the columns of all lanes.
+#[derive(Drop)]
+pub struct Instant<'a, N: Scalar> {
+    pub t: N::Time,
+    pub x: &'a [N],
+    pub columns: &'a [N],
+}
+
 // With an output function, and space that is made for the model.
 fn jump_out<N: Scalar + Drop, E: OdeEquations<N>>(
     eqn: &E,
-    t: N::Time,
-    x: &[N],
-    dg: &[N],
+    instant: &Instant<N>,
     v: &mut [N],
     work: &mut Work<N>,
 ) -> Result<(), E::Fault>
-    requires space { Made (E.OdeEquations.model eqn.now) work.now.sizes.channels work.now.sizes }
-    requires columns { length dg.now ≡ work.now.sizes.channels * work.now.sizes.outputs }
-    requires both { length v.old ≡ work.now.sizes.channels * work.now.sizes.states + work.now.sizes.channels * work.now.sizes.parameters }
-    ensures rule { Does (jumped_by N.Scalar.kind.ops (E.OdeEquations.model eqn.now) work.entry.now.sizes.channels (Some work.entry.now.sizes.outputs) t x.now dg.now v.old) result v.old v.new }
+    requires space { Made (E.OdeEquations.model eqn.now) work.now.sizes }
+    requires columns { length instant.now.columns.now ≡ work.now.sizes.channels * work.now.sizes.outputs }
+    requires both { length v.old ≡ vector_length work.now.sizes }
+    ensures rule { Does (jumped_by N.Scalar.kind.ops (E.OdeEquations.model eqn.now) work.entry.now.sizes.channels (Some work.entry.now.sizes.outputs) instant.now.t instant.now.x.now instant.now.columns.now v.old) result v.old v.new }
     ensures space { work.exit.now.sizes ≡ work.entry.now.sizes }
 {
     let sizes = work.sizes;
-    let by_parameter = work.out_by_parameter.as_mut_slice();
-    gather(
-        eqn,
-        Op::Out,
-        Wrt::Parameters,
-        sizes.parameters,
-        t,
-        x,
-        by_parameter,
-    )?;
-    let by_state = work.out_by_state.as_mut_slice();
-    gather(eqn, Op::Out, Wrt::States, sizes.states, t, x, by_state)?;
+    let Instant { t, x, columns } = *instant;
+    let p = work.out_by_parameter.as_mut_slice();
+    gather(eqn, Op::Out, Wrt::Parameters, sizes.parameters, t, x, p)?;
+    let q = work.out_by_state.as_mut_slice();
+    gather(eqn, Op::Out, Wrt::States, sizes.states, t, x, q)?;
     let lost = Product {
         mode: Mode::Lose,
-        matrix: by_parameter,
+        matrix: p,
         rows: sizes.outputs,
-        vectors: dg,
+        vectors: columns,
     };
     let (s, sg) = v.split_at_mut(sizes.channels * sizes.states);
     lost.meet(sizes.channels, sg, work.gradient.as_mut_slice());
-    let lost = Product {
-        matrix: by_state,
-        ..lost
-    };
+    let lost = Product { matrix: q, ..lost };
     lost.meet(sizes.channels, s, work.state.as_mut_slice());
     Ok(())
 }
@@ -69,39 +65,35 @@ fn apply_delta_g_no_out<N: Scalar>(dg: &[N], v: &mut [N])
     add_assign(&mut v[0..mid], dg);
 }
 
-// At the time t of an instant, x the forward state there and dg the instant's columns, lane by lane. With an output
-// function sg loses the outputs' parameter product of dg, then s their state product of it; without, s gains dg.
+// With an output function sg loses the outputs' parameter product of the columns, then s their state product of them;
+// without, s gains the columns.
 pub fn apply_delta_g<N: Scalar + Drop, E: OdeEquations<N>>(
     eqn: &E,
-    t: N::Time,
-    x: &[N],
+    instant: &Instant<N>,
     channels: usize,
-    dg: &[N],
     v: &mut [N],
     work: &mut Work<N>,
 ) -> Result<(), RuleFault<E::Fault>>
-    ensures rule { Does (jump_of N.Scalar.kind.ops (E.OdeEquations.model eqn.now) channels work.entry.now.sizes t x.now dg.now v.old) result v.old v.new }
+    ensures rule { Does (jump_of N.Scalar.kind.ops (E.OdeEquations.model eqn.now) channels work.entry.now.sizes instant.now.t instant.now.x.now instant.now.columns.now v.old) result v.old v.new }
     ensures space { work.exit.now.sizes ≡ work.entry.now.sizes }
 {
     let states = eqn.nstates();
     let lengths = [
-        (fills(dg, channels, outputs(eqn)), Size::Columns),
+        (
+            fills(instant.columns, channels, outputs(eqn)),
+            Size::Columns,
+        ),
         (
             is_both(v.len(), channels, states, eqn.nparams()),
             Size::Vector,
         ),
-        (x.len() == states, Size::ForwardState),
+        (instant.x.len() == states, Size::ForwardState),
         (work.sizes.made_for(eqn, channels), Size::WorkingSpace),
     ];
     all_fit(eqn, channels, &lengths)?;
     match eqn.nout() {
-        Some(_) => {
-            jump_out(eqn, t, x, dg, v, work)?;
-            Ok(())
-        }
-        None => {
-            apply_delta_g_no_out(dg, v);
-            Ok(())
-        }
+        Some(_) => jump_out(eqn, instant, v, work)?,
+        None => apply_delta_g_no_out(instant.columns, v),
     }
+    Ok(())
 }

@@ -1,10 +1,10 @@
 // What a touchdown does to all lanes.
-ghost use Rattle.std.specs.Prelude.{◌≡◌, ◌+◌, ◌*◌, ◌<◌, ◌≤◌, ◌++◌, length, take, drop};
+ghost use Rattle.std.specs.Prelude.{◌≡◌, ◌<◌, length};
 ghost use Rattle.adjoint.specs.Reset.{crossed_by, Derives, reset_at, reset as reset_of};
 ghost use Rattle.adjoint.specs.Rules.{Does};
-ghost use Rattle.adjoint.specs.Sizes.{Made};
+ghost use Rattle.adjoint.specs.Sizes.{Made, vector_length};
 
-use crate::crossing::{Alphas, gather_matrix, root_of};
+use crate::crossing::Alphas;
 use crate::faults::RuleFault;
 use crate::lanes::{Mode, Product};
 use crate::sizes::{all_fit, is_both};
@@ -30,7 +30,7 @@ pub struct Boundary<'a, N: Scalar> {
 
 // Over root r, crossed at a rate, with what the space holds of the boundary.
 fn cross<N: Scalar + Drop>(r: usize, rate: N, v: &mut [N], work: &mut Work<N>)
-    requires { length v.old ≡ work.now.sizes.channels * work.now.sizes.states + work.now.sizes.channels * work.now.sizes.parameters }
+    requires { length v.old ≡ vector_length work.now.sizes }
     ensures rule { v.new ≡ crossed_by N.Scalar.kind.ops r rate work.entry.now v.old }
     ensures space { work.exit.now.sizes ≡ work.entry.now.sizes }
 {
@@ -82,34 +82,18 @@ fn derive<N: Scalar + Drop, E: OdeEquations<N>>(
     boundary: &Boundary<N>,
     work: &mut Work<N>,
 ) -> Result<N, RuleFault<E::Fault>>
-    requires space { Made (E.OdeEquations.model eqn.now) work.now.sizes.channels work.now.sizes }
+    requires space { Made (E.OdeEquations.model eqn.now) work.now.sizes }
     requires slope { length boundary.now.below.now ≡ work.now.sizes.states }
     requires root { r < work.now.sizes.roots }
-    ensures terms { Derives N.Scalar.kind.ops (E.OdeEquations.model eqn.now) r boundary.now.t boundary.now.y.now boundary.now.below.now boundary.now.above.now result work.exit.now }
+    ensures terms { Derives N.Scalar.kind.ops (E.OdeEquations.model eqn.now) r boundary.now result work.exit.now }
     ensures space { work.exit.now.sizes ≡ work.entry.now.sizes }
 {
     let columns = work.sizes.parameters;
     let rate = work.crossing.fill(eqn, r, boundary)?;
     let pp = work.by_parameter.as_mut_slice();
-    gather_matrix(
-        eqn,
-        Op::Reset,
-        Wrt::Parameters,
-        columns,
-        boundary.t,
-        boundary.y,
-        pp,
-    )?;
+    boundary.gather(eqn, Op::Reset, Wrt::Parameters, columns, pp)?;
     let qp = work.root_by_parameter.as_mut_slice();
-    gather_matrix(
-        eqn,
-        Op::Root,
-        Wrt::Parameters,
-        columns,
-        boundary.t,
-        boundary.y,
-        qp,
-    )?;
+    boundary.gather(eqn, Op::Root, Wrt::Parameters, columns, qp)?;
     Ok(rate)
 }
 
@@ -121,10 +105,10 @@ fn reset_lanes<N: Scalar + Drop, E: OdeEquations<N>>(
     v: &mut [N],
     work: &mut Work<N>,
 ) -> Result<(), RuleFault<E::Fault>>
-    requires space { Made (E.OdeEquations.model eqn.now) work.now.sizes.channels work.now.sizes }
+    requires space { Made (E.OdeEquations.model eqn.now) work.now.sizes }
     requires slope { length boundary.now.below.now ≡ work.now.sizes.states }
     requires root { r < work.now.sizes.roots }
-    requires both { length v.old ≡ work.now.sizes.channels * work.now.sizes.states + work.now.sizes.channels * work.now.sizes.parameters }
+    requires both { length v.old ≡ vector_length work.now.sizes }
     ensures rule { Does (reset_at N.Scalar.kind.ops (E.OdeEquations.model eqn.now) work.entry.now.sizes.channels r boundary.now.t boundary.now.y.now boundary.now.below.now boundary.now.above.now v.old) result v.old v.new }
     ensures space { work.exit.now.sizes ≡ work.entry.now.sizes }
 {
@@ -157,6 +141,6 @@ pub fn apply_reset_with_adjoint<N: Scalar + Drop, E: OdeEquations<N>>(
         (work.sizes.made_for(eqn, channels), Size::WorkingSpace),
     ];
     all_fit(eqn, channels, &lengths)?;
-    let r = root_of(eqn, boundary.segment, boundary.root)?;
+    let r = boundary.root_of(eqn)?;
     reset_lanes(eqn, r, boundary, v, work)
 }

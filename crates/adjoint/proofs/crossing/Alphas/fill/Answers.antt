@@ -1,10 +1,9 @@
-use Rattle.std.proofs.Common.{◌≡◌, ◌+◌, ◌*◌, ◌≤◌, cond, eqb, length, sym, refl, ap, ◌∙◌, arith}
-use borrow.Rule.Slice.PartMut.{put_mid}
+use Rattle.std.proofs.Common.{◌+◌, ◌*◌, ◌≤◌, cond, eqb, length, sym, ◌∙◌, arith}
 use Rattle.std.proofs.lemmas.List.FromFn.{length-map-range_with_len}
 use Rattle.scalar.proofs.Rows.{row_within}
-use Rattle.adjoint.specs.Lanes.{lane_from, lane_of}
+use Rattle.adjoint.specs.Lanes.{lane_of}
 use Rattle.adjoint.specs.Reset.{at_root, alpha}
-use Rattle.adjoint.proofs.Laned.{partly, lanes_none, lane_more, lanes_all, lanes_joined, lane_cut}
+use Rattle.adjoint.proofs.Laned.{lanes_none, lane_more, lanes_all, lanes_joined}
 use Rattle.adjoint.proofs.Alphas.{alpha_lane}
 use Rattle.adjoint.proofs.crossing.Alphas.fill.Goals as goal
 
@@ -19,14 +18,11 @@ loop-i-preserved g c =
     let i = c.loop-i.i in
     let n = k.roots in
     let w = length k.gap.now in
-    let out = c.loop-i.out in
     let s = c.args.s.now in
-    let f = alpha_lane o k.gap.now k.rate n k.root w s in
-    let b = row_within i c.args.lanes n (omega arith) in
-    let room : i * n + n ≤ length out = omega arith in
-    let long : length (f i (lane_from (i * n) n out)) ≡ n = length-map-range_with_len (λ j. cond (eqb j k.root) (alpha o k.gap.now k.rate (lane_of w s i)) (o.whole 0)) 0 n in
-    let own = ap (λ x. put_mid (i * n) n out (at_root o n k.root (alpha o k.gap.now k.rate x))) (lane_cut s i w) in
-    ap (λ xs. partly f n c.args.lanes xs (i + 1)) (c.fill_lane.ensures ∙ own) ∙ lane_more f n c.args.lanes out (f i (lane_from (i * n) n out)) i (omega arith) room long refl ∙ c.loop-i.invariant
+    let inside = row_within i c.args.lanes n (omega arith) in
+    let room : i * n + n ≤ length c.loop-i.out = omega arith in
+    let long = length-map-range_with_len (λ j. cond (eqb j k.root) (alpha o k.gap.now k.rate (lane_of w s i)) (o.whole 0)) 0 n in
+    lane_more (alpha_lane o k.gap.now k.rate n k.root w s) n c.args.lanes c.loop-i.out c.fill_lane.new.out i (omega arith) room long c.fill_lane.ensures ∙ c.loop-i.invariant
 
 pub returns : goal.returns
 returns g c =

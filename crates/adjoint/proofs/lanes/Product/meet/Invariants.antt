@@ -5,5 +5,6 @@ use Rattle.adjoint.proofs.lanes.Product.meet.Given as goal
 
 abbrev pub invariant-loop-i : goal.invariant-loop-i
 invariant-loop-i g l =
-    let f = lane_product g.N.Scalar.kind.ops l.self.mode l.self.matrix.now l.w l.self.rows l.self.vectors.now in
-    (length l.space ≡ l.w) × (partly f l.w l.lanes l.parts l.i ≡ laned f l.w 0 l.lanes l.initial.parts)
+    let w = length l.initial.space in
+    let f = lane_product g.N.Scalar.kind.ops l.self.mode l.self.matrix.now w l.self.rows l.self.vectors.now in
+    partly f w l.lanes l.parts l.i ≡ laned f w 0 l.lanes l.initial.parts
