@@ -5,12 +5,11 @@ ghost use Rattle.adjoint.specs.Sizes.{Made, vector_length};
 
 use crate::faults::RuleFault;
 use crate::lanes::{Mode, Product};
-use crate::sizes::{all_fit, is_both};
+use crate::sizes::{all_fit, vector_fits};
 use crate::work::Work;
 use equations::OdeEquations;
 use equations::gather::gather;
 use equations::op::{Op, Wrt};
-use refusals::sizes::Size;
 use scalar::Scalar;
 
 // With space that is made for the model.
@@ -59,11 +58,8 @@ pub fn correct_sg_for_init<N: Scalar + Drop, E: OdeEquations<N>>(
     ensures space { work.exit.now.sizes ≡ work.entry.now.sizes }
 {
     let lengths = [
-        (
-            is_both(v.len(), channels, eqn.nstates(), eqn.nparams()),
-            Size::Vector,
-        ),
-        (work.sizes.made_for(eqn, channels), Size::WorkingSpace),
+        vector_fits(eqn, channels, v),
+        work.sizes.space_fits(eqn, channels),
     ];
     all_fit(eqn, channels, &lengths)?;
     correct_lanes(eqn, start, v, work)?;

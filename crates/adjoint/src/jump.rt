@@ -6,7 +6,7 @@ ghost use Rattle.adjoint.specs.Sizes.{Made, vector_length};
 
 use crate::faults::RuleFault;
 use crate::lanes::{Mode, Product};
-use crate::sizes::{all_fit, is_both, outputs};
+use crate::sizes::{all_fit, outputs, vector_fits};
 use crate::work::Work;
 use equations::OdeEquations;
 use equations::gather::gather;
@@ -83,12 +83,9 @@ pub fn apply_delta_g<N: Scalar + Drop, E: OdeEquations<N>>(
             fills(instant.columns, channels, outputs(eqn)),
             Size::Columns,
         ),
-        (
-            is_both(v.len(), channels, states, eqn.nparams()),
-            Size::Vector,
-        ),
+        vector_fits(eqn, channels, v),
         (instant.x.len() == states, Size::ForwardState),
-        (work.sizes.made_for(eqn, channels), Size::WorkingSpace),
+        work.sizes.space_fits(eqn, channels),
     ];
     all_fit(eqn, channels, &lengths)?;
     match eqn.nout() {

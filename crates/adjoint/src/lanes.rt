@@ -8,8 +8,8 @@ use scalar::Scalar;
 use scalar::matrix::minus_transposed_product;
 use scalar::vectors::{add_assign, sub_assign};
 
-// What a part does with a product. A closure in its place would make relations over what the closure answers of the
-// equations in specs/, which name the mode.
+// What a part does with a product. No closure in its place: the equations of the rules in specs/ name the mode, and would
+// become relations over the closure's calls.
 #[derive(Clone, Copy)]
 pub enum Mode {
     // the part is replaced by it

@@ -7,7 +7,7 @@ ghost use Rattle.adjoint.specs.Sizes.{Made, vector_length};
 use crate::crossing::Alphas;
 use crate::faults::RuleFault;
 use crate::lanes::{Mode, Product};
-use crate::sizes::{all_fit, is_both};
+use crate::sizes::{all_fit, vector_fits};
 use crate::work::Work;
 use equations::OdeEquations;
 use equations::op::{Op, Wrt};
@@ -134,11 +134,8 @@ pub fn apply_reset_with_adjoint<N: Scalar + Drop, E: OdeEquations<N>>(
         (boundary.y.len() == states, Size::CheckpointState),
         (boundary.below.len() == states, Size::CheckpointSlope),
         (boundary.above.len() == states, Size::CheckpointSlope),
-        (
-            is_both(v.len(), channels, states, eqn.nparams()),
-            Size::Vector,
-        ),
-        (work.sizes.made_for(eqn, channels), Size::WorkingSpace),
+        vector_fits(eqn, channels, v),
+        work.sizes.space_fits(eqn, channels),
     ];
     all_fit(eqn, channels, &lengths)?;
     let r = boundary.root_of(eqn)?;

@@ -1,8 +1,8 @@
 // The sizes that a rule works with, within their limits.
 ghost use Rattle.std.specs.Prelude.{◌≡◌, ◌+◌, ◌*◌, ◌++◌, ◌==◌};
 ghost use Rattle.refusals.specs.Sizes.{first_wrong};
-ghost use Rattle.adjoint.specs.Sizes.{Sized, within as is_within, rows_of, made_for, limits};
-ghost use Rattle.adjoint.specs.Rules.{sized};
+ghost use Rattle.adjoint.specs.Sizes.{Sized, within as is_within, rows_of, limits};
+ghost use Rattle.adjoint.specs.Rules.{sized, vector_fits, space_fits};
 
 use crate::faults::RuleFault;
 use crate::measures::Sizes;
@@ -24,13 +24,25 @@ fn within(low: usize, n: usize, high: usize) -> bool
 }
 
 // Whether there are so many entries, in n parts of one width and n of another.
-pub(crate) fn is_both(entries: usize, n: usize, width: usize, other: usize) -> bool
+fn is_both(entries: usize, n: usize, width: usize, other: usize) -> bool
     ensures { result ≡ (entries == n * width + n * other) }
 {
     n.checked_mul(width)
         .zip(n.checked_mul(other))
         .and_then(|(a, b)| a.checked_add(b))
         == Some(entries)
+}
+
+// Whether a vector holds all s and all sg.
+pub(crate) fn vector_fits<N: Scalar, E: OdeEquations<N>>(
+    eqn: &E,
+    channels: usize,
+    v: &[N],
+) -> (bool, Size)
+    ensures { result ≡ vector_fits N.Scalar.kind.ops (E.OdeEquations.model eqn.now) channels v.now }
+{
+    let fits = is_both(v.len(), channels, eqn.nstates(), eqn.nparams());
+    (fits, Size::Vector)
 }
 
 // The sizes within their limits, then the lengths.
@@ -73,14 +85,20 @@ impl Sizes {
         })
     }
 
-    // Whether these are the sizes of the model with so many channels.
-    pub(crate) fn made_for<N: Scalar, E: OdeEquations<N>>(&self, eqn: &E, channels: usize) -> bool
-        ensures { result ≡ made_for (E.OdeEquations.model eqn.now) channels self.now }
+    // Whether space of these sizes is made for the model with so many channels. Not by `==`: a model beyond the limits has
+    // no `Sizes`.
+    pub(crate) fn space_fits<N: Scalar, E: OdeEquations<N>>(
+        &self,
+        eqn: &E,
+        channels: usize,
+    ) -> (bool, Size)
+        ensures { result ≡ space_fits N.Scalar.kind.ops (E.OdeEquations.model eqn.now) channels self.now }
     {
-        self.channels == channels
+        let fits = self.channels == channels
             && self.states == eqn.nstates()
             && self.parameters == eqn.nparams()
             && self.outputs == outputs(eqn)
-            && self.roots == eqn.nroots()
+            && self.roots == eqn.nroots();
+        (fits, Size::WorkingSpace)
     }
 }

@@ -1,20 +1,25 @@
-use Rattle.std.proofs.Common.{◌*◌, eqb, [], ◌∷◌, length, sym, ◌∙◌}
+use Rattle.std.proofs.Common.{◌*◌, eqb, [], ◌∷◌, length}
 use Rattle.std.proofs.lemmas.Bool.{eqb-true}
-use Rattle.refusals.specs.declared.sizes.Size.TheVariants.{Columns, Vector, ForwardState, WorkingSpace}
-use Rattle.adjoint.specs.Sizes.{limits}
+use Rattle.refusals.specs.declared.sizes.Size.TheVariants.{Columns, ForwardState}
+use Rattle.adjoint.specs.Rules.{vector_fits, space_fits}
+use Rattle.adjoint.specs.Sizes.{limits, rows_of}
 use Rattle.adjoint.proofs.Fits.{is_made, vector_is, passed}
 use Rattle.adjoint.proofs.jump.apply_delta_g.Goals as goal
 
 pub jump_out-requires : goal.jump_out-requires
 jump_out-requires g c =
+    let o = g.N.Scalar.kind.ops in
     let m = g.E.OdeEquations.model c.args.eqn.now in
     let n = c.args.channels in
+    let b = c.args.instant.now in
     let s = c.args.work.now.sizes in
+    let v = c.args.v.now in
+    let fits = rw (c.fills.ensures, c.outputs.ensures, c.vector_fits.ensures, c.nstates-states.ensures, c.space_fits.ensures) at c.in_ok-all_fit.ensures in
     let right =
-    passed (limits m n) ((c.fills.result, Columns) ∷ (c.is_both.result, Vector) ∷ (eqb (length c.args.instant.now.x.now) c.nstates-states.result, ForwardState) ∷ (c.made_for.result, WorkingSpace) ∷ []) c.in_ok-all_fit.ensures in
-    let made = is_made m n s (sym c.made_for.ensures ∙ right.1.1.1.0) in
+    passed (limits m n) ((eqb (length b.columns.now) (n * rows_of m), Columns) ∷ vector_fits o m n v ∷ (eqb (length b.x.now) m.states, ForwardState) ∷ space_fits o m n s ∷ []) fits in
+    let made = is_made m n s right.1.1.1.0 in
     record {
       space = made.1;
-      columns = rw (made.0, made.1.outputs, ← c.outputs.ensures) (eqb-true (length c.args.instant.now.columns.now) (n * c.outputs.result) (sym c.fills.ensures ∙ right.0));
-      both = vector_is m n s (length c.args.v.now) made (rw (c.nstates-states.ensures, c.nparams.ensures) at (sym c.is_both.ensures ∙ right.1.0));
+      columns = rw (made.0, made.1.outputs) (eqb-true (length b.columns.now) (n * rows_of m) right.0);
+      both = vector_is m n s (length v) made right.1.0;
     }
