@@ -1,5 +1,5 @@
 -- What sizes that fit say.
-use Rattle.std.proofs.Common.{◌≡◌, ℕ, ◌+◌, ◌*◌, Bool, true, eqb, List, ◌++◌, Ok, Err, Result, refl}
+use Rattle.std.proofs.Common.{◌≡◌, ℕ, ◌+◌, ◌*◌, Bool, true, eqb, List, ◌++◌, Ok, Err, Result, refl, ◌∙◌}
 use Rattle.std.proofs.lemmas.Bool.{and_parts, eqb-true}
 use Rattle.equations.specs.Model.{Model}
 use Rattle.refusals.specs.declared.sizes.Size.{Size}
@@ -7,7 +7,7 @@ use Rattle.refusals.specs.declared.sizes.WrongSize.{WrongSize}
 use Rattle.refusals.specs.Sizes.{first_wrong}
 use Rattle.refusals.proofs.Tests.{AllRight, right_after}
 use Rattle.adjoint.specs.declared.faults.RuleFault.{RuleFault}
-use Rattle.adjoint.specs.Rules.{sized}
+use Rattle.adjoint.specs.Rules.{Does, sized}
 use Rattle.adjoint.specs.declared.measures.Sizes.{Sizes}
 use Rattle.adjoint.specs.Sizes.{made_for, rows_of, Made, vector_length}
 
@@ -38,3 +38,8 @@ of_sized (Err w) h = cc
 -- where a rule goes on each of its tests is passed
 pub passed : {F : Type 0} (limits tests : List (Bool × Size)) → ◌≡◌ {A = Result (Unit {0}) (RuleFault F)} (Ok tt) (sized (first_wrong (limits ++ tests)) (Ok tt)) → AllRight tests
 passed limits tests h = right_after limits tests (of_sized (first_wrong (limits ++ tests)) h)
+
+-- where it stops at one the vector stays
+pub stopped : {N F : Type 0} (x : Result (Unit {0}) WrongSize) (r : Result (List N) (RuleFault F)) (e : RuleFault F) (told : Result (Unit {0}) (RuleFault F)) (v : List N) → ◌≡◌ {A = Result (Unit {0}) (RuleFault F)} (Err e) (sized x (Ok tt)) → told ≡ Err e → Does (sized x r) told v v
+stopped (Ok tt) r e told v h k = absurd (cc)
+stopped (Err w) r e told v h k = (k ∙ h, refl)

@@ -46,6 +46,17 @@ pub(crate) fn vector_fits<N: Scalar, E: OdeEquations<N>>(
 }
 
 // The sizes within their limits, then the lengths.
+fn first_unfit<N: Scalar, E: OdeEquations<N>>(
+    eqn: &E,
+    channels: usize,
+    lengths: &[(bool, Size)],
+) -> Result<(), WrongSize>
+    ensures { result ≡ first_wrong (limits (E.OdeEquations.model eqn.now) channels ++ lengths.now) }
+{
+    let _ = Sizes::of(eqn, channels)?;
+    first_wrong(lengths)
+}
+
 pub(crate) fn all_fit<N: Scalar, E: OdeEquations<N>>(
     eqn: &E,
     channels: usize,
@@ -54,7 +65,7 @@ pub(crate) fn all_fit<N: Scalar, E: OdeEquations<N>>(
     ensures { result ≡ sized (first_wrong (limits (E.OdeEquations.model eqn.now) channels ++ lengths.now)) (Ok tt) }
 {
     // `map_err` has no proof here: what it passes on names the model's fault, which no argument of it does
-    match Sizes::of(eqn, channels).and_then(|_| first_wrong(lengths)) {
+    match first_unfit(eqn, channels, lengths) {
         Ok(()) => Ok(()),
         Err(w) => Err(RuleFault::Size(w)),
     }

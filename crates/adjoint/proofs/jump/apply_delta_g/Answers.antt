@@ -1,9 +1,10 @@
-use Rattle.std.proofs.Common.{◌*◌, eqb, [], ◌∷◌, length}
+use Rattle.std.proofs.Common.{◌*◌, eqb, [], ◌∷◌, ◌++◌, length, rules}
 use Rattle.std.proofs.lemmas.Bool.{eqb-true}
 use Rattle.refusals.specs.declared.sizes.Size.TheVariants.{Columns, ForwardState}
+use Rattle.refusals.specs.Sizes.{first_wrong}
 use Rattle.adjoint.specs.Rules.{vector_fits, space_fits}
 use Rattle.adjoint.specs.Sizes.{limits, rows_of}
-use Rattle.adjoint.proofs.Fits.{is_made, vector_is, passed}
+use Rattle.adjoint.proofs.Fits.{is_made, vector_is, passed, stopped}
 use Rattle.adjoint.proofs.jump.apply_delta_g.Goals as goal
 
 pub jump_out-requires : goal.jump_out-requires
@@ -23,3 +24,14 @@ jump_out-requires g c =
       columns = rw (made.0, made.1.outputs) (eqb-true (length b.columns.now) (n * rows_of m) right.0);
       both = vector_is m n s (length v) made right.1.0;
     }
+
+pub returns-in_err-all_fit-clause-rule : goal.returns-in_err-all_fit-clause-rule
+returns-in_err-all_fit-clause-rule g c =
+    let o = g.N.Scalar.kind.ops in
+    let m = g.E.OdeEquations.model c.args.eqn.now in
+    let n = c.args.channels in
+    let b = c.args.instant.now in
+    let v = c.args.v.now in
+    let fits = rw (c.fills.ensures, c.outputs.ensures, c.vector_fits.ensures, c.nstates-states.ensures, c.space_fits.ensures) at c.in_err-all_fit.ensures in
+    let tests = (eqb (length b.columns.now) (n * rows_of m), Columns) ∷ vector_fits o m n v ∷ (eqb (length b.x.now) m.states, ForwardState) ∷ space_fits o m n c.args.work.now.sizes ∷ [] in
+    stopped (first_wrong (limits m n ++ tests)) _ c.in_err-all_fit.field-0.0 c.from_residual.result v fits (search rules)
