@@ -1,5 +1,4 @@
 pub mod Laned
 pub mod Alphas
-pub mod Rules
-pub mod Resets
+pub mod Roots
 pub mod Fits

@@ -1,5 +1,5 @@
 -- What a touchdown does to all s and all sg: the boundary of a segment is crossed from above.
-use Rattle.std.specs.Prelude.{ℕ, zero, suc, ◌+◌, ◌*◌, Bool, cond, List, [], ◌∷◌, ◌++◌, map, length, Some, None, Ok, Err, Option, Result, ◌==◌, nat_lt}
+use Rattle.std.specs.Prelude.{◌≡◌, ℕ, zero, suc, ◌+◌, ◌*◌, Bool, cond, List, [], ◌∷◌, ◌++◌, map, length, take, drop, Some, None, Ok, Err, Option, Result, ◌==◌, nat_lt}
 use Rattle.std.specs.List.{range_with_len}
 use Rattle.scalar.specs.Ops.{Ops}
 use Rattle.scalar.specs.Vectors.{at, placewise, dot_of, product, row_by_row}
@@ -14,6 +14,8 @@ use Rattle.adjoint.specs.declared.faults.RuleFault.{RuleFault}
 use Rattle.adjoint.specs.declared.faults.RuleFault.TheVariants.{NoRootIndex, NoReset, NoRoot, RootIndex, SmallDenominator}
 use Rattle.adjoint.specs.declared.lanes.Mode.TheVariants.{Become, Lose, Gain}
 use Rattle.adjoint.specs.declared.measures.Sizes.{Sizes}
+use Rattle.adjoint.specs.declared.reset.Boundary.{Boundary}
+use Rattle.adjoint.specs.declared.work.Work.{Work}
 use Rattle.adjoint.specs.Sizes.{limits}
 use Rattle.adjoint.specs.Lanes.{lane_of, with_products}
 use Rattle.adjoint.specs.Rules.{sized, of_model, states, gradients, vector_fits, space_fits}
@@ -60,6 +62,16 @@ module _ {N : Type 0} (o : Ops N) where
   abbrev pub alphas : List N → N → ℕ → ℕ → ℕ → List N → ℕ → List N
   alphas gap rate n r w s lanes = joined (λ i. at_root n r (alpha gap rate (lane_of w s i))) 0 lanes
 
+  -- so over root r, which is crossed at a rate, with the derivatives that working space holds
+  abbrev pub crossed_by : ℕ → N → Work N → List N → List N
+  crossed_by r rate w v =
+      let ns = w.sizes.states in
+      let n = w.sizes.channels in
+      let s = take (n * ns) v in
+      let β = alphas w.crossing.gap.items rate w.sizes.roots r ns s n in
+      with_products o Lose w.crossing.reset_by_state.items ns ns s n (with_products o Become w.crossing.root_by_state.items ns w.sizes.roots β n s)
+      ++ with_products o Gain w.root_by_parameter.items w.sizes.parameters w.sizes.roots β n (with_products o Lose w.by_parameter.items w.sizes.parameters ns s n (drop (n * ns) v))
+
 module _ {N T F : Type 0} (o : Ops N) (m : Model N T F) where
   -- the root that ended the segment below
   abbrev pub rooted : ℕ → Option ℕ → Result ℕ (RuleFault F)
@@ -77,6 +89,18 @@ module _ {N T F : Type 0} (o : Ops N) (m : Model N T F) where
       and_then (entries_at Root States m.states t y (m.roots * m.states)) (λ q.
       and_then (entries_at Root TimeOnly 1 t y m.roots) (λ qt.
       cond (small o (rate_of o q qt below m.roots r)) (Err SmallDenominator) (Ok (record { reset = p; root = q; gap = gap_of o p pt below above m.states; rate = rate_of o q qt below m.roots r }))))))
+
+  -- An answer of the rate at which root r is crossed: working space holds the boundary's derivatives then.
+  abbrev pub Derives : ℕ → Boundary N T → Result N (RuleFault F) → Work N → Type 0
+  Derives r b (Ok rate) w =
+      (terms_at r b.t b.y.now b.below.now b.above.now ≡ Ok (record { reset = w.crossing.reset_by_state.items; root = w.crossing.root_by_state.items; gap = w.crossing.gap.items; rate = rate }))
+      × (entries_at Reset Parameters m.parameters b.t b.y.now (m.states * m.parameters) ≡ Ok w.by_parameter.items)
+      × (entries_at Root Parameters m.parameters b.t b.y.now (m.roots * m.parameters) ≡ Ok w.root_by_parameter.items)
+  Derives r b (Err e) w =
+      and_then (terms_at r b.t b.y.now b.below.now b.above.now) (λ k.
+      and_then (entries_at Reset Parameters m.parameters b.t b.y.now (m.states * m.parameters)) (λ pp.
+      entries_at Root Parameters m.parameters b.t b.y.now (m.roots * m.parameters)))
+      ≡ Err e
 
   module _ (channels : ℕ) where
     -- s becomes the root product of α, less the reset product of the old s; sg loses the old s's reset parameter product (entries pp),

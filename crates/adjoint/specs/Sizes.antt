@@ -1,5 +1,5 @@
 -- The sizes that a rule works with, and their limits.
-use Rattle.std.specs.Prelude.{◌≡◌, ℕ, Bool, ◌&&◌, List, [], ◌∷◌, Some, None, Ok, Err, Result, ◌==◌, nat_le}
+use Rattle.std.specs.Prelude.{◌≡◌, ℕ, ◌+◌, ◌*◌, Bool, ◌&&◌, List, [], ◌∷◌, Some, None, Ok, Err, Result, ◌==◌, nat_le}
 use Rattle.refusals.specs.declared.sizes.Size.{Size}
 use Rattle.refusals.specs.declared.sizes.Size.TheVariants.{Channels, States, Parameters, Outputs, Roots}
 use Rattle.refusals.specs.declared.sizes.WrongSize.{WrongSize}
@@ -28,6 +28,17 @@ limits m channels =
 abbrev pub made_for : {N T F : Type 0} → Model N T F → ℕ → Sizes → Bool
 made_for m channels s =
     (s.channels == channels) && (s.states == m.states && (s.parameters == m.parameters && (s.outputs == rows_of m && s.roots == m.roots)))
+
+-- so but for the channels, as equations
+pub record Made {N T F : Type 0} (m : Model N T F) (s : Sizes) : Type 0 where
+  pub states : s.states ≡ m.states
+  pub parameters : s.parameters ≡ m.parameters
+  pub outputs : s.outputs ≡ rows_of m
+  pub roots : s.roots ≡ m.roots
+
+-- the numbers of all s and all sg
+abbrev pub vector_length : Sizes → ℕ
+vector_length s = s.channels * s.states + s.channels * s.parameters
 
 -- what measuring a model answers
 abbrev pub Sized : {N T F : Type 0} → Model N T F → ℕ → Result Sizes WrongSize → Type 0

@@ -1,55 +1,48 @@
 // The correction of the gradients at the model's start.
 ghost use Rattle.std.specs.Prelude.{◌≡◌, ◌+◌, ◌*◌, length};
 ghost use Rattle.adjoint.specs.Rules.{Does, corrected, correction};
+ghost use Rattle.adjoint.specs.Sizes.{Made, vector_length};
 
 use crate::faults::RuleFault;
-use crate::lanes::{Mode, with_products};
-use crate::sizes::{all_fit, is_both};
+use crate::lanes::{Mode, Product};
+use crate::sizes::{all_fit, vector_fits};
 use crate::work::Work;
 use equations::OdeEquations;
 use equations::gather::gather;
 use equations::op::{Op, Wrt};
-use refusals::sizes::Size;
 use scalar::Scalar;
 
-// `matrix`, `old` and `product` are working space: the entries, a copy of all s, and one lane's product.
-fn correct_lanes<N: Scalar, E: OdeEquations<N>>(
+// With space that is made for the model.
+fn correct_lanes<N: Scalar + Drop, E: OdeEquations<N>>(
     eqn: &E,
     start: N::Time,
-    channels: usize,
     v: &mut [N],
-    matrix: &mut [N],
-    old: &mut [N],
-    product: &mut [N],
+    work: &mut Work<N>,
 ) -> Result<(), E::Fault>
-    requires wide { length product.old ≡ (E.OdeEquations.model eqn.now).parameters }
-    requires full { length matrix.old ≡ (E.OdeEquations.model eqn.now).states * (E.OdeEquations.model eqn.now).parameters }
-    requires first { length old.old ≡ channels * (E.OdeEquations.model eqn.now).states }
-    requires both { length v.old ≡ channels * (E.OdeEquations.model eqn.now).states + channels * (E.OdeEquations.model eqn.now).parameters }
-    ensures { Does (corrected N.Scalar.kind.ops (E.OdeEquations.model eqn.now) channels start v.old) result v.old v.new }
+    requires space { Made (E.OdeEquations.model eqn.now) work.now.sizes }
+    requires both { length v.old ≡ vector_length work.now.sizes }
+    ensures rule { Does (corrected N.Scalar.kind.ops (E.OdeEquations.model eqn.now) work.entry.now.sizes.channels start v.old) result v.old v.new }
+    ensures space { work.exit.now.sizes ≡ work.entry.now.sizes }
 {
+    let sizes = work.sizes;
+    let matrix = work.by_parameter.as_mut_slice();
     gather(
         eqn,
         Op::Init,
         Wrt::Parameters,
-        product.len(),
+        sizes.parameters,
         start,
-        &v[0..0],
+        &[],
         matrix,
     )?;
-    let states = eqn.nstates();
-    let mid = old.len();
-    let end = v.len();
-    old.copy_from_slice(&v[0..mid]);
-    with_products(
-        Mode::Lose,
+    let (s, sg) = v.split_at_mut(sizes.channels * sizes.states);
+    let product = Product {
+        mode: Mode::Lose,
         matrix,
-        states,
-        old,
-        channels,
-        &mut v[mid..end],
-        product,
-    );
+        rows: sizes.states,
+        vectors: s,
+    };
+    product.meet(sizes.channels, sg, work.gradient.as_mut_slice());
     Ok(())
 }
 
@@ -65,23 +58,10 @@ pub fn correct_sg_for_init<N: Scalar + Drop, E: OdeEquations<N>>(
     ensures space { work.exit.now.sizes ≡ work.entry.now.sizes }
 {
     let lengths = [
-        (
-            is_both(v.len(), channels, eqn.nstates(), eqn.nparams()),
-            Size::Vector,
-        ),
-        (work.sizes.made_for(eqn, channels), Size::WorkingSpace),
+        vector_fits(eqn, channels, v),
+        work.sizes.space_fits(eqn, channels),
     ];
-    if let Err(w) = all_fit(eqn, channels, &lengths) {
-        return Err(RuleFault::Size(w));
-    }
-    correct_lanes(
-        eqn,
-        start,
-        channels,
-        v,
-        work.by_parameter.as_mut_slice(),
-        work.old.as_mut_slice(),
-        work.gradient.as_mut_slice(),
-    )?;
+    all_fit(eqn, channels, &lengths)?;
+    correct_lanes(eqn, start, v, work)?;
     Ok(())
 }

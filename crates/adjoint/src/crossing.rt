@@ -1,11 +1,13 @@
 // What a boundary gives to every lane.
 ghost use Rattle.std.specs.Prelude.{◌≡◌, ◌+◌, ◌*◌, ◌<◌, ◌≤◌, length, if◌then◌else◌, nat_eq};
 ghost use borrow.Rule.Slice.PartMut.{put_mid};
-ghost use Rattle.adjoint.specs.Lanes.{lane_from};
+ghost use Rattle.adjoint.specs.Lanes.{lane_of};
 ghost use Rattle.adjoint.specs.Reset.{gap_of, rate_of, small, alpha as alpha_of, at_root, alphas, rooted, entries_at, terms_at, terms_of};
 ghost use Rattle.adjoint.specs.Rules.{cells_of};
 
 use crate::faults::RuleFault;
+use crate::reset::Boundary;
+use crate::work::Crossing;
 use equations::OdeEquations;
 use equations::gather::gather;
 use equations::op::{Op, Wrt};
@@ -13,27 +15,42 @@ use scalar::Scalar;
 use scalar::matrix::product;
 use scalar::vectors::{add_assign, dot, sub_assign};
 
-// Refusals 9 to 12, in their order.
-pub(crate) fn root_of<N: Scalar, E: OdeEquations<N>>(
-    eqn: &E,
-    segment: usize,
-    root: Option<usize>,
-) -> Result<usize, RuleFault<E::Fault>>
-    ensures { result ≡ rooted N.Scalar.kind.ops (E.OdeEquations.model eqn.now) segment root }
-{
-    let Some(r) = root else {
-        return Err(RuleFault::NoRootIndex(segment));
-    };
-    if !eqn.has_reset() {
-        return Err(RuleFault::NoReset(segment));
+impl<'a, N: Scalar> Boundary<'a, N> {
+    // The root that is crossed, or refusals 9 to 12, in their order.
+    pub(crate) fn root_of<E: OdeEquations<N>>(&self, eqn: &E) -> Result<usize, RuleFault<E::Fault>>
+        ensures { result ≡ rooted N.Scalar.kind.ops (E.OdeEquations.model eqn.now) self.now.segment self.now.root }
+    {
+        // `ok_or` lets the fault go where there is a root, and not every model's fault may be let go
+        let Some(r) = self.root else {
+            return Err(RuleFault::NoRootIndex(self.segment));
+        };
+        if !eqn.has_reset() {
+            return Err(RuleFault::NoReset(self.segment));
+        }
+        if eqn.nroots() == 0 {
+            return Err(RuleFault::NoRoot(self.segment));
+        }
+        if r < eqn.nroots() {
+            Ok(r)
+        } else {
+            Err(RuleFault::RootIndex(r))
+        }
     }
-    if eqn.nroots() == 0 {
-        return Err(RuleFault::NoRoot(segment));
-    }
-    if r < eqn.nroots() {
-        Ok(r)
-    } else {
-        Err(RuleFault::RootIndex(r))
+
+    // The entries of one function there, as a matrix; at a refusal what `out` holds is free.
+    pub(crate) fn gather<E: OdeEquations<N>>(
+        &self,
+        eqn: &E,
+        op: Op,
+        wrt: Wrt,
+        columns: usize,
+        out: &mut [N],
+    ) -> Result<(), RuleFault<E::Fault>>
+        requires { columns ≡ 0 → length out.old ≡ 0 }
+        ensures { entries_at N.Scalar.kind.ops (E.OdeEquations.model eqn.now) op wrt columns self.now.t self.now.y.now (length out.old) ≡ cells_of result out.new }
+    {
+        gather(eqn, op, wrt, columns, self.t, self.y, out)?;
+        Ok(())
     }
 }
 
@@ -63,12 +80,6 @@ fn is_small<N: Scalar>(rate: N) -> bool
     rate.abs().at_most(limit)
 }
 
-fn alpha<N: Scalar>(s: &[N], gap: &[N], rate: N) -> N
-    ensures { result ≡ alpha_of N.Scalar.kind.ops gap.now rate s.now }
-{
-    dot(s, gap) / rate
-}
-
 fn place_of<N: Scalar>(i: usize, r: usize, a: N) -> N
     ensures { result ≡ (if nat_eq i r then a else N.Scalar.kind.ops.whole 0) }
 {
@@ -79,97 +90,81 @@ fn place_of<N: Scalar>(i: usize, r: usize, a: N) -> N
 fn fill_at_root<N: Scalar>(part: &mut [N], r: usize, a: N)
     ensures { part.new ≡ at_root N.Scalar.kind.ops (length part.old) r a }
 {
-    for i in 0..part.len() {
-        part[i] = place_of(i, r, a);
+    for (i, x) in part.iter_mut().enumerate() {
+        *x = place_of(i, r, a);
     }
 }
 
-// One lane, whose w states begin at b: its α at r, into the n places from a on.
-fn lane_alpha<N: Scalar>(
-    s: &[N],
-    b: usize,
-    w: usize,
-    gap: &[N],
-    rate: N,
-    r: usize,
-    out: &mut [N],
-    a: usize,
-    n: usize,
-)
-    requires { (b + w ≤ length s.now) × (a + n ≤ length out.old) }
-    ensures { out.new ≡ put_mid a n out.old (at_root N.Scalar.kind.ops n r (alpha_of N.Scalar.kind.ops gap.now rate (lane_from b w s.now))) }
-{
-    let alpha = alpha(&s[b..b + w], gap, rate);
-    fill_at_root(&mut out[a..a + n], r, alpha);
+// What gives each lane its α: the gap, as wide as a lane's s, how fast the root is crossed, and which of the roots it is.
+#[derive(Clone, Copy)]
+pub(crate) struct Alphas<'a, N> {
+    pub(crate) gap: &'a [N],
+    pub(crate) rate: N,
+    pub(crate) root: usize,
+    pub(crate) roots: usize,
 }
 
-// Every lane of all s, each w wide, with as many places as there are roots.
-pub(crate) fn fill_alphas<N: Scalar>(
-    s: &[N],
-    w: usize,
-    gap: &[N],
-    rate: N,
-    r: usize,
-    roots: usize,
-    lanes: usize,
-    out: &mut [N],
-)
-    requires { (length s.now ≡ lanes * w) × (length out.old ≡ lanes * roots) }
-    ensures { out.new ≡ alphas N.Scalar.kind.ops gap.now rate roots r w s.now lanes }
-{
-    for i in 0..lanes {
-        lane_alpha(s, i * w, w, gap, rate, r, out, i * roots, roots);
+impl<'a, N: Scalar> Alphas<'a, N> {
+    fn alpha(&self, s: &[N]) -> N
+        ensures { result ≡ alpha_of N.Scalar.kind.ops self.now.gap.now self.now.rate s.now }
+    {
+        dot(s, self.gap) / self.rate
+    }
+
+    // Lane i of all s: its α, into its own places of `out`.
+    fn fill_lane(&self, i: usize, s: &[N], out: &mut [N])
+        requires states { i * length self.now.gap.now + length self.now.gap.now ≤ length s.now }
+        requires roots { i * self.now.roots + self.now.roots ≤ length out.old }
+        ensures { out.new ≡ put_mid (i * self.now.roots) self.now.roots out.old (at_root N.Scalar.kind.ops self.now.roots self.now.root (alpha_of N.Scalar.kind.ops self.now.gap.now self.now.rate (lane_of (length self.now.gap.now) s.now i))) }
+    {
+        let a = i * self.gap.len();
+        let b = i * self.roots;
+        let alpha = self.alpha(&s[a..a + self.gap.len()]);
+        fill_at_root(&mut out[b..b + self.roots], self.root, alpha);
+    }
+
+    // Every lane, with as many places as there are roots.
+    #[tactic(auto, using(scalar::proofs::Rows::row_within))]
+    pub(crate) fn fill(&self, s: &[N], lanes: usize, out: &mut [N])
+        requires { (length s.now ≡ lanes * length self.now.gap.now) × (length out.old ≡ lanes * self.now.roots) }
+        ensures { out.new ≡ alphas N.Scalar.kind.ops self.now.gap.now self.now.rate self.now.roots self.now.root (length self.now.gap.now) s.now lanes }
+    {
+        // a lane's places start inside the lent slice, so which lane it is is handed on with the slice
+        for i in 0..lanes {
+            self.fill_lane(i, s, out);
+        }
     }
 }
 
-// The entries of one function as a matrix; at a refusal what `out` holds is free.
-pub(crate) fn gather_matrix<N: Scalar, E: OdeEquations<N>>(
-    eqn: &E,
-    op: Op,
-    wrt: Wrt,
-    columns: usize,
-    t: N::Time,
-    x: &[N],
-    out: &mut [N],
-) -> Result<(), RuleFault<E::Fault>>
-    requires { columns ≡ 0 → length out.old ≡ 0 }
-    ensures { entries_at N.Scalar.kind.ops (E.OdeEquations.model eqn.now) op wrt columns t x.now (length out.old) ≡ cells_of result out.new }
-{
-    gather(eqn, op, wrt, columns, t, x, out)?;
-    Ok(())
-}
-
-// At the time t and the state y below a boundary: the reset's entries by state into p, the root's into q, what the slope
-// below lacks to the one above into `gap`, and how fast root r is crossed as the answer. The others are working space.
-pub(crate) fn crossing_terms<N: Scalar, E: OdeEquations<N>>(
-    eqn: &E,
-    r: usize,
-    t: N::Time,
-    y: &[N],
-    below: &[N],
-    above: &[N],
-    p: &mut [N],
-    pt: &mut [N],
-    q: &mut [N],
-    qt: &mut [N],
-    gap: &mut [N],
-    rates: &mut [N],
-) -> Result<N, RuleFault<E::Fault>>
-    requires resets { (length p.old ≡ (E.OdeEquations.model eqn.now).states * (E.OdeEquations.model eqn.now).states) × (length pt.old ≡ (E.OdeEquations.model eqn.now).states) }
-    requires roots { (length q.old ≡ (E.OdeEquations.model eqn.now).roots * (E.OdeEquations.model eqn.now).states) × (length qt.old ≡ (E.OdeEquations.model eqn.now).roots) }
-    requires rows { (length gap.old ≡ (E.OdeEquations.model eqn.now).states) × ((length rates.old ≡ (E.OdeEquations.model eqn.now).roots) × (length below.now ≡ (E.OdeEquations.model eqn.now).states)) }
-    requires root { r < (E.OdeEquations.model eqn.now).roots }
-    ensures { terms_at N.Scalar.kind.ops (E.OdeEquations.model eqn.now) r t y.now below.now above.now ≡ terms_of result p.new q.new gap.new }
-{
-    let states = eqn.nstates();
-    gather_matrix(eqn, Op::Reset, Wrt::States, states, t, y, p)?;
-    gather_matrix(eqn, Op::Reset, Wrt::TimeOnly, 1, t, y, pt)?;
-    gather_matrix(eqn, Op::Root, Wrt::States, states, t, y, q)?;
-    gather_matrix(eqn, Op::Root, Wrt::TimeOnly, 1, t, y, qt)?;
-    slope_gap(p, pt, below, above, gap);
-    let rate = crossing_rate(q, qt, below, r, rates);
-    if is_small(rate) {
-        return Err(RuleFault::SmallDenominator);
+impl<N: Scalar + Drop> Crossing<N> {
+    // At a boundary: the reset's and the root's entries by state, what the slope below lacks to the one above, and as the
+    // answer how fast root r is crossed.
+    pub(crate) fn fill<E: OdeEquations<N>>(
+        &mut self,
+        eqn: &E,
+        r: usize,
+        boundary: &Boundary<N>,
+    ) -> Result<N, RuleFault<E::Fault>>
+        requires sizes { (self.now.states ≡ (E.OdeEquations.model eqn.now).states) × (self.now.roots ≡ (E.OdeEquations.model eqn.now).roots) }
+        requires slope { length boundary.now.below.now ≡ self.now.states }
+        requires root { r < self.now.roots }
+        ensures terms { terms_at N.Scalar.kind.ops (E.OdeEquations.model eqn.now) r boundary.now.t boundary.now.y.now boundary.now.below.now boundary.now.above.now ≡ terms_of result self.exit.now.reset_by_state.items self.exit.now.root_by_state.items self.exit.now.gap.items }
+        ensures sizes { (self.exit.now.states ≡ self.entry.now.states) × (self.exit.now.roots ≡ self.entry.now.roots) }
+    {
+        let p = self.reset_by_state.as_mut_slice();
+        let pt = self.reset_by_time.as_mut_slice();
+        let q = self.root_by_state.as_mut_slice();
+        let qt = self.root_by_time.as_mut_slice();
+        boundary.gather(eqn, Op::Reset, Wrt::States, self.states, p)?;
+        boundary.gather(eqn, Op::Reset, Wrt::TimeOnly, 1, pt)?;
+        boundary.gather(eqn, Op::Root, Wrt::States, self.states, q)?;
+        boundary.gather(eqn, Op::Root, Wrt::TimeOnly, 1, qt)?;
+        let below = boundary.below;
+        slope_gap(p, pt, below, boundary.above, self.gap.as_mut_slice());
+        let rate = crossing_rate(q, qt, below, r, self.rates.as_mut_slice());
+        if is_small(rate) {
+            return Err(RuleFault::SmallDenominator);
+        }
+        Ok(rate)
     }
-    Ok(rate)
 }

@@ -36,15 +36,14 @@ impl<T, F: Refusal<T>> Refusal<T> for RuleFault<F> {
     ghost listed = { listed F.Refusal.told F.Refusal.numbers F.Refusal.listed };
 
     fn number(fault: Option<&Self>) -> Option<u8> {
-        match fault {
-            None => None,
-            Some(RuleFault::Size(_)) => Some(1),
-            Some(RuleFault::NoRootIndex(_)) => Some(9),
-            Some(RuleFault::NoReset(_)) => Some(10),
-            Some(RuleFault::NoRoot(_)) => Some(11),
-            Some(RuleFault::RootIndex(_)) => Some(12),
-            Some(RuleFault::SmallDenominator) => Some(13),
-            Some(RuleFault::Model(e)) => F::number(Some(e)),
-        }
+        Some(match fault? {
+            RuleFault::Size(_) => 1,
+            RuleFault::NoRootIndex(_) => 9,
+            RuleFault::NoReset(_) => 10,
+            RuleFault::NoRoot(_) => 11,
+            RuleFault::RootIndex(_) => 12,
+            RuleFault::SmallDenominator => 13,
+            RuleFault::Model(e) => return F::number(Some(e)),
+        })
     }
 }

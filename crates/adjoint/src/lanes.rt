@@ -2,13 +2,14 @@
 ghost use Rattle.std.specs.Prelude.{◌≡◌, ◌+◌, ◌*◌, ◌≤◌, length};
 ghost use borrow.Rule.Slice.PartMut.{put_mid};
 ghost use Rattle.scalar.specs.Vectors.{placewise};
-ghost use Rattle.adjoint.specs.Lanes.{lane_from, product_of, combined, with_products};
+ghost use Rattle.adjoint.specs.Lanes.{lane_of, product_of, combined, lane_product, with_products};
 
 use scalar::Scalar;
 use scalar::matrix::minus_transposed_product;
 use scalar::vectors::{add_assign, sub_assign};
 
-// What a part does with a product.
+// What a part does with a product. No closure in its place: the equations of the rules in specs/ name the mode, and would
+// become relations over the closure's calls.
 #[derive(Clone, Copy)]
 pub enum Mode {
     // the part is replaced by it
@@ -19,51 +20,53 @@ pub enum Mode {
     Gain,
 }
 
-// One lane: `product` is working space as wide as the part.
-fn lane_product<N: Scalar>(mode: Mode, m: &[N], v: &[N], part: &mut [N], product: &mut [N])
-    requires { (length m.now ≡ length v.now * length part.old) × (length product.old ≡ length part.old) }
-    ensures { part.new ≡ placewise (combined N.Scalar.kind.ops mode) part.old (product_of N.Scalar.kind.ops m.now (length part.old) v.now) }
-{
-    let _ = minus_transposed_product(m, v, product);
-    match mode {
-        Mode::Become => part.copy_from_slice(product),
-        Mode::Lose => sub_assign(part, product),
-        Mode::Gain => add_assign(part, product),
+// A product that every lane meets: of one matrix, which lies row by row and is as wide as a lane's part, and the lane's own
+// vector, which has as many numbers as the matrix has rows.
+#[derive(Clone, Copy)]
+pub(crate) struct Product<'m, 'v, N> {
+    pub(crate) mode: Mode,
+    pub(crate) matrix: &'m [N],
+    pub(crate) rows: usize,
+    pub(crate) vectors: &'v [N],
+}
+
+// `space` is working space, as wide as a part.
+impl<'m, 'v, N: Scalar> Product<'m, 'v, N> {
+    // One lane's part, with that lane's vector.
+    fn meet_part(&self, vector: &[N], part: &mut [N], space: &mut [N])
+        requires { (length self.now.matrix.now ≡ length vector.now * length part.old) × (length space.old ≡ length part.old) }
+        ensures { part.new ≡ placewise (combined N.Scalar.kind.ops self.now.mode) part.old (product_of N.Scalar.kind.ops self.now.matrix.now (length part.old) vector.now) }
+    {
+        let _ = minus_transposed_product(self.matrix, vector, space);
+        match self.mode {
+            Mode::Become => part.copy_from_slice(space),
+            Mode::Lose => sub_assign(part, space),
+            Mode::Gain => add_assign(part, space),
+        }
     }
-}
 
-fn lane_at<N: Scalar>(
-    mode: Mode,
-    m: &[N],
-    v: &[N],
-    parts: &mut [N],
-    a: usize,
-    w: usize,
-    product: &mut [N],
-)
-    requires { (length m.now ≡ length v.now * w) × ((length product.old ≡ w) × (a + w ≤ length parts.old)) }
-    ensures { parts.new ≡ put_mid a w parts.old (placewise (combined N.Scalar.kind.ops mode) (lane_from a w parts.old) (product_of N.Scalar.kind.ops m.now w v.now)) }
-{
-    lane_product(mode, m, v, &mut parts[a..a + w], product);
-}
+    // Lane i of all parts.
+    fn meet_lane(&self, i: usize, parts: &mut [N], space: &mut [N])
+        requires matrix { length self.now.matrix.now ≡ self.now.rows * length space.old }
+        requires vector { i * self.now.rows + self.now.rows ≤ length self.now.vectors.now }
+        requires part { i * length space.old + length space.old ≤ length parts.old }
+        ensures { let w = length space.old in parts.new ≡ put_mid (i * w) w parts.old (lane_product N.Scalar.kind.ops self.now.mode self.now.matrix.now w self.now.rows self.now.vectors.now i (lane_of w parts.old i)) }
+    {
+        let a = i * self.rows;
+        let b = i * space.len();
+        let vector = &self.vectors[a..a + self.rows];
+        self.meet_part(vector, &mut parts[b..b + space.len()], space);
+    }
 
-// Each of `lanes` parts, all of one width, becomes, loses or gains the transposed product of the matrix with the lane's
-// own vector, which has as many numbers as the matrix has rows.
-pub(crate) fn with_products<N: Scalar>(
-    mode: Mode,
-    m: &[N],
-    rows: usize,
-    vectors: &[N],
-    lanes: usize,
-    parts: &mut [N],
-    product: &mut [N],
-)
-    requires { (length m.now ≡ rows * length product.old) × ((length vectors.now ≡ lanes * rows) × (length parts.old ≡ lanes * length product.old)) }
-    ensures { parts.new ≡ with_products N.Scalar.kind.ops mode m.now (length product.old) rows vectors.now lanes parts.old }
-{
-    let w = product.len();
-    for i in 0..lanes {
-        let b = i * rows;
-        lane_at(mode, m, &vectors[b..b + rows], parts, i * w, w, product);
+    // Each of `lanes` parts becomes, loses or gains the transposed product.
+    #[tactic(auto, using(scalar::proofs::Rows::row_within))]
+    pub(crate) fn meet(&self, lanes: usize, parts: &mut [N], space: &mut [N])
+        requires { (length self.now.matrix.now ≡ self.now.rows * length space.old) × ((length self.now.vectors.now ≡ lanes * self.now.rows) × (length parts.old ≡ lanes * length space.old)) }
+        ensures { parts.new ≡ with_products N.Scalar.kind.ops self.now.mode self.now.matrix.now (length space.old) self.now.rows self.now.vectors.now lanes parts.old }
+    {
+        // a lane's part starts inside the lent slice, so which lane it is is handed on with the slice
+        for i in 0..lanes {
+            self.meet_lane(i, parts, space);
+        }
     }
 }

@@ -1,8 +1,10 @@
 // The sizes that a rule works with, within their limits.
 ghost use Rattle.std.specs.Prelude.{◌≡◌, ◌+◌, ◌*◌, ◌++◌, ◌==◌};
 ghost use Rattle.refusals.specs.Sizes.{first_wrong};
-ghost use Rattle.adjoint.specs.Sizes.{Sized, within as is_within, rows_of, made_for, limits};
+ghost use Rattle.adjoint.specs.Sizes.{Sized, within as is_within, rows_of, limits};
+ghost use Rattle.adjoint.specs.Rules.{sized, vector_fits, space_fits};
 
+use crate::faults::RuleFault;
 use crate::measures::Sizes;
 use equations::OdeEquations;
 use refusals::sizes::{Size, WrongSize, first_wrong};
@@ -12,10 +14,7 @@ use scalar::Scalar;
 pub(crate) fn outputs<N: Scalar, E: OdeEquations<N>>(eqn: &E) -> usize
     ensures { result ≡ rows_of (E.OdeEquations.model eqn.now) }
 {
-    match eqn.nout() {
-        Some(rows) => rows,
-        None => eqn.nstates(),
-    }
+    eqn.nout().unwrap_or(eqn.nstates())
 }
 
 fn within(low: usize, n: usize, high: usize) -> bool
@@ -24,31 +23,30 @@ fn within(low: usize, n: usize, high: usize) -> bool
     low <= n && n <= high
 }
 
-// Whether there are rows × columns entries.
-pub(crate) fn is_filled(entries: usize, rows: usize, columns: usize) -> bool
-    ensures { result ≡ (entries == rows * columns) }
-{
-    match rows.checked_mul(columns) {
-        Some(n) => entries == n,
-        None => false,
-    }
-}
-
 // Whether there are so many entries, in n parts of one width and n of another.
-pub(crate) fn is_both(entries: usize, n: usize, width: usize, other: usize) -> bool
+fn is_both(entries: usize, n: usize, width: usize, other: usize) -> bool
     ensures { result ≡ (entries == n * width + n * other) }
 {
-    match (n.checked_mul(width), n.checked_mul(other)) {
-        (Some(a), Some(b)) => match a.checked_add(b) {
-            Some(both) => entries == both,
-            None => false,
-        },
-        _ => false,
-    }
+    n.checked_mul(width)
+        .zip(n.checked_mul(other))
+        .and_then(|(a, b)| a.checked_add(b))
+        == Some(entries)
+}
+
+// Whether a vector holds all s and all sg.
+pub(crate) fn vector_fits<N: Scalar, E: OdeEquations<N>>(
+    eqn: &E,
+    channels: usize,
+    v: &[N],
+) -> (bool, Size)
+    ensures { result ≡ vector_fits N.Scalar.kind.ops (E.OdeEquations.model eqn.now) channels v.now }
+{
+    let fits = is_both(v.len(), channels, eqn.nstates(), eqn.nparams());
+    (fits, Size::Vector)
 }
 
 // The sizes within their limits, then the lengths.
-pub(crate) fn all_fit<N: Scalar, E: OdeEquations<N>>(
+fn first_unfit<N: Scalar, E: OdeEquations<N>>(
     eqn: &E,
     channels: usize,
     lengths: &[(bool, Size)],
@@ -57,6 +55,20 @@ pub(crate) fn all_fit<N: Scalar, E: OdeEquations<N>>(
 {
     let _ = Sizes::of(eqn, channels)?;
     first_wrong(lengths)
+}
+
+pub(crate) fn all_fit<N: Scalar, E: OdeEquations<N>>(
+    eqn: &E,
+    channels: usize,
+    lengths: &[(bool, Size)],
+) -> Result<(), RuleFault<E::Fault>>
+    ensures { result ≡ sized (first_wrong (limits (E.OdeEquations.model eqn.now) channels ++ lengths.now)) (Ok tt) }
+{
+    // `map_err` has no proof here: what it passes on names the model's fault, which no argument of it does
+    match first_unfit(eqn, channels, lengths) {
+        Ok(()) => Ok(()),
+        Err(w) => Err(RuleFault::Size(w)),
+    }
 }
 
 impl Sizes {
@@ -84,14 +96,20 @@ impl Sizes {
         })
     }
 
-    // Whether these are the sizes of the model with so many channels.
-    pub(crate) fn made_for<N: Scalar, E: OdeEquations<N>>(&self, eqn: &E, channels: usize) -> bool
-        ensures { result ≡ made_for (E.OdeEquations.model eqn.now) channels self.now }
+    // Whether space of these sizes is made for the model with so many channels. Not by `==`: a model beyond the limits has
+    // no `Sizes`.
+    pub(crate) fn space_fits<N: Scalar, E: OdeEquations<N>>(
+        &self,
+        eqn: &E,
+        channels: usize,
+    ) -> (bool, Size)
+        ensures { result ≡ space_fits N.Scalar.kind.ops (E.OdeEquations.model eqn.now) channels self.now }
     {
-        self.channels == channels
+        let fits = self.channels == channels
             && self.states == eqn.nstates()
             && self.parameters == eqn.nparams()
             && self.outputs == outputs(eqn)
-            && self.roots == eqn.nroots()
+            && self.roots == eqn.nroots();
+        (fits, Size::WorkingSpace)
     }
 }

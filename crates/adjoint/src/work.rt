@@ -5,45 +5,52 @@ use crate::measures::Sizes;
 use scalar::Scalar;
 use std::alloc::{AllocError, Global};
 
+// For what a boundary gives to every lane.
+#[derive(Drop)]
+pub(crate) struct Crossing<N: Drop> {
+    pub(crate) states: usize,
+    pub(crate) roots: usize,
+    pub(crate) reset_by_state: Vec<N>,
+    pub(crate) reset_by_time: Vec<N>,
+    pub(crate) root_by_state: Vec<N>,
+    pub(crate) root_by_time: Vec<N>,
+    // what the slope below a boundary lacks to the one above
+    pub(crate) gap: Vec<N>,
+    // the roots' derivatives along the slope
+    pub(crate) rates: Vec<N>,
+    ghost by_state: { (vec_len reset_by_state ≡ states * states) × (vec_len root_by_state ≡ roots * states) },
+    ghost by_time: { (vec_len reset_by_time ≡ states) × (vec_len root_by_time ≡ roots) },
+    ghost rows: { (vec_len gap ≡ states) × (vec_len rates ≡ roots) },
+}
+
 #[derive(Drop)]
 pub struct Work<N: Drop> {
     pub(crate) sizes: Sizes,
     // matrices of derivatives
     pub(crate) out_by_state: Vec<N>,
     pub(crate) out_by_parameter: Vec<N>,
-    pub(crate) reset_by_state: Vec<N>,
-    pub(crate) reset_by_time: Vec<N>,
-    pub(crate) root_by_state: Vec<N>,
-    pub(crate) root_by_time: Vec<N>,
     pub(crate) root_by_parameter: Vec<N>,
     // of the reset, or of the initial state
     pub(crate) by_parameter: Vec<N>,
+    pub(crate) crossing: Crossing<N>,
     // all s as they were
     pub(crate) old: Vec<N>,
     // for each lane, a number per root
     pub(crate) alphas: Vec<N>,
-    // what the slope below a boundary lacks to the one above
-    pub(crate) gap: Vec<N>,
-    // the roots' derivatives along the slope
-    pub(crate) crossing: Vec<N>,
     // one lane's product
     pub(crate) state: Vec<N>,
     pub(crate) gradient: Vec<N>,
     ghost outs: { (vec_len out_by_state ≡ sizes.outputs * sizes.states) × (vec_len out_by_parameter ≡ sizes.outputs * sizes.parameters) },
-    ghost resets: { (vec_len reset_by_state ≡ sizes.states * sizes.states) × (vec_len reset_by_time ≡ sizes.states) × (vec_len by_parameter ≡ sizes.states * sizes.parameters) },
-    ghost roots: { (vec_len root_by_state ≡ sizes.roots * sizes.states) × (vec_len root_by_time ≡ sizes.roots) × (vec_len root_by_parameter ≡ sizes.roots * sizes.parameters) },
+    ghost by_parameters: { (vec_len by_parameter ≡ sizes.states * sizes.parameters) × (vec_len root_by_parameter ≡ sizes.roots * sizes.parameters) },
+    ghost crossings: { (crossing.states ≡ sizes.states) × (crossing.roots ≡ sizes.roots) },
     ghost lanes: { (vec_len old ≡ sizes.channels * sizes.states) × (vec_len alphas ≡ sizes.channels * sizes.roots) },
-    ghost rows: { (vec_len gap ≡ sizes.states) × (vec_len crossing ≡ sizes.roots) × (vec_len state ≡ sizes.states) × (vec_len gradient ≡ sizes.parameters) },
+    ghost products: { (vec_len state ≡ sizes.states) × (vec_len gradient ≡ sizes.parameters) },
 }
 
 fn zeros<N: Scalar + Drop>(heap: Global, n: usize) -> Result<Vec<N>, AllocError>
     ensures { IfOk result (λ v. vec_len v ≡ n) }
 {
-    let mut v = Vec::new(heap);
-    for _ in 0..n {
-        v.push(N::whole(0))?;
-    }
-    Ok(v)
+    vec![in heap; N::whole(0); n]
 }
 
 // Zeros for a matrix.
@@ -52,6 +59,24 @@ fn matrix<N: Scalar + Drop>(heap: Global, rows: usize, columns: usize) -> Result
     ensures { IfOk result (λ v. vec_len v ≡ rows * columns) }
 {
     zeros(heap, rows * columns)
+}
+
+impl<N: Scalar + Drop> Crossing<N> {
+    fn new(heap: Global, states: usize, roots: usize) -> Result<Crossing<N>, AllocError>
+        requires { (states ≤ 16) × (roots ≤ 16) }
+        ensures { IfOk result (λ w. (w.states ≡ states) × (w.roots ≡ roots)) }
+    {
+        Ok(Crossing {
+            states,
+            roots,
+            reset_by_state: matrix(heap, states, states)?,
+            reset_by_time: zeros(heap, states)?,
+            root_by_state: matrix(heap, roots, states)?,
+            root_by_time: zeros(heap, roots)?,
+            gap: zeros(heap, states)?,
+            rates: zeros(heap, roots)?,
+        })
+    }
 }
 
 impl<N: Scalar + Drop> Work<N> {
@@ -67,16 +92,11 @@ impl<N: Scalar + Drop> Work<N> {
             sizes,
             out_by_state: matrix(heap, no, ns)?,
             out_by_parameter: matrix(heap, no, np)?,
-            reset_by_state: matrix(heap, ns, ns)?,
-            reset_by_time: zeros(heap, ns)?,
-            root_by_state: matrix(heap, nr, ns)?,
-            root_by_time: zeros(heap, nr)?,
             root_by_parameter: matrix(heap, nr, np)?,
             by_parameter: matrix(heap, ns, np)?,
+            crossing: Crossing::new(heap, ns, nr)?,
             old: matrix(heap, n, ns)?,
             alphas: matrix(heap, n, nr)?,
-            gap: zeros(heap, ns)?,
-            crossing: zeros(heap, nr)?,
             state: zeros(heap, ns)?,
             gradient: zeros(heap, np)?,
         })

@@ -5,9 +5,9 @@
 #[cfg(test)]
 mod tests {
     use adjoint::correct::correct_sg_for_init;
-    use adjoint::jump::apply_delta_g;
+    use adjoint::jump::{Instant, apply_delta_g};
     use adjoint::measures::Sizes;
-    use adjoint::reset::apply_reset_with_adjoint;
+    use adjoint::reset::{Boundary, apply_reset_with_adjoint};
     use adjoint::work::Work;
     use equations::contact::Contact;
     use scalar::Scalar;
@@ -50,15 +50,12 @@ mod tests {
         let mut work = space(rt.alloc())?;
         let t = 1.0.time().ok_or("no time")?;
         let mut v = [1.0, 1.0, 2.0, 0.0, 1.0, 2.0, 3.0, 4.0, 5.0, 6.0, 7.0, 8.0];
-        let answer = apply_delta_g(
-            &contact(),
+        let instant = Instant {
             t,
-            &[0.5, -1.0],
-            2,
-            &[10.0, 20.0],
-            &mut v,
-            &mut work,
-        );
+            x: &[0.5, -1.0],
+            columns: &[10.0, 20.0],
+        };
+        let answer = apply_delta_g(&contact(), &instant, 2, &mut v, &mut work);
         assert!(rt; answer.is_ok());
         assert!(rt; v == [11.0, 1.0, 22.0, 0.0, 1.0, 2.0, 3.0, 4.0, 5.0, 6.0, 7.0, 8.0]);
         Ok(())
@@ -72,18 +69,15 @@ mod tests {
         let mut work = space(rt.alloc())?;
         let t = 1.0.time().ok_or("no time")?;
         let mut v = [1.0, 1.0, 2.0, 0.0, 1.0, 2.0, 3.0, 4.0, 5.0, 6.0, 7.0, 8.0];
-        let answer = apply_reset_with_adjoint(
-            &contact(),
-            1,
-            Some(0),
+        let boundary = Boundary {
+            segment: 1,
+            root: Some(0),
             t,
-            &[0.0, -2.0],
-            &[-2.0, -6.0],
-            &[1.0, -9.0],
-            2,
-            &mut v,
-            &mut work,
-        );
+            y: &[0.0, -2.0],
+            below: &[-2.0, -6.0],
+            above: &[1.0, -9.0],
+        };
+        let answer = apply_reset_with_adjoint(&contact(), &boundary, 2, &mut v, &mut work);
         assert!(rt; answer.is_ok());
         assert!(rt; v == [5.5, -0.5, -1.0, 0.0, 1.0, 2.0, 3.0, 6.0, 5.0, 6.0, 7.0, 8.0]);
         Ok(())

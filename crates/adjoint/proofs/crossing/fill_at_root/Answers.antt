@@ -1,13 +1,6 @@
-use Rattle.std.proofs.Common.{◌<◌, cond, eqb, length, arith}
-use Rattle.std.proofs.lemmas.List.Edits.{fill_by_more}
+use Rattle.std.proofs.Common.{cond, eqb, length, arith}
 use Rattle.std.proofs.lemmas.List.FromFn.{fill_by_all}
 use Rattle.adjoint.proofs.crossing.fill_at_root.Goals as goal
-
-pub loop-i-preserved : goal.loop-i-preserved
-loop-i-preserved g c k h =
-    let o = g.N.Scalar.kind.ops in
-    let inside : c.loop-i.i < length c.loop-i.part = omega arith in
-    simp c.place_of.ensures (fill_by_more (λ i. cond (eqb i c.args.r) c.args.a (o.whole 0)) c.loop-i.part c.loop-i.i (o.whole 0) inside c.loop-i.invariant k h)
 
 pub returns : goal.returns
 returns g c =

@@ -1,27 +1,23 @@
-use Rattle.std.proofs.Common.{◌≡◌, ◌-◌, ◌≤◌, ◌++◌, length, take, drop, ap, ◌∙◌, arith}
-use Rattle.std.proofs.lemmas.List.{take_rest}
+use Rattle.std.proofs.Common.{rules, ◌≡◌, ◌*◌, take, drop}
 use Rattle.adjoint.specs.declared.lanes.Mode.TheVariants.{Become, Lose, Gain}
 use Rattle.adjoint.specs.Lanes.{with_products}
-use Rattle.adjoint.proofs.Rules.{front_kept, both_written}
+use Rattle.adjoint.specs.Reset.{alphas}
 use Rattle.adjoint.proofs.reset.cross.Goals as goal
 
-pub returns : goal.returns
-returns g c =
+pub returns-clause-rule : goal.returns-clause-rule
+returns-clause-rule g c =
     let o = g.N.Scalar.kind.ops in
+    let w = c.args.work.now in
+    let n = w.sizes.channels in
+    let ns = w.sizes.states in
+    let np = w.sizes.parameters in
+    let nr = w.sizes.roots in
     let v = c.args.v.now in
-    let n = c.args.lanes in
-    let ns = length c.args.state.now in
-    let np = length c.args.gradient.now in
-    let mid = length c.args.old.now in
-    let old = c.args.old.now in
-    let alphas = c.args.alphas.now in
-    let inside : mid ≤ length v = omega arith in
-    let new = c.with_two_products.new.parts in
-    let long : length new ≡ length v - mid = omega arith in
-    let sg : new ≡ with_products o Gain c.args.qp.now np c.args.roots alphas n (with_products o Lose c.args.pp.now np ns old n (drop mid v)) =
-    c.with_two_products.ensures ∙ ap (λ xs. with_products o Gain c.args.qp.now np c.args.roots alphas n (with_products o Lose c.args.pp.now np ns old n xs)) (take_rest v mid) in
-    let s : c.with_two_products-2.new.parts ≡ with_products o Lose c.args.p.now ns ns old n (with_products o Become c.args.q.now ns c.args.roots alphas n (take mid v)) =
-    c.with_two_products-2.ensures ∙ ap (λ xs. with_products o Lose c.args.p.now ns ns old n (with_products o Become c.args.q.now ns c.args.roots alphas n xs)) (front_kept v new mid inside long) in
-    both_written v new mid inside long c.with_two_products-2.new.parts
-    ∙ ap (λ zs. zs ++ new) s
-    ∙ ap (λ zs. with_products o Lose c.args.p.now ns ns old n (with_products o Become c.args.q.now ns c.args.roots alphas n (take mid v)) ++ zs) sg
+    let s = take (n * ns) v in
+    let β = alphas o w.crossing.gap.items c.args.rate nr c.args.r ns s n in
+    let all : c.fill.new.out ≡ β = search rules in
+    let a : c.meet.new.parts ≡ with_products o Lose w.by_parameter.items np ns s n (drop (n * ns) v) = search rules in
+    let b : c.meet-2.new.parts ≡ with_products o Gain w.root_by_parameter.items np nr c.fill.new.out n c.meet.new.parts = search rules in
+    let d : c.meet-3.new.parts ≡ with_products o Become w.crossing.root_by_state.items ns nr c.fill.new.out n s = search rules in
+    let e : c.meet-4.new.parts ≡ with_products o Lose w.crossing.reset_by_state.items ns ns s n c.meet-3.new.parts = search rules in
+    rw (e, d, b, a, all)

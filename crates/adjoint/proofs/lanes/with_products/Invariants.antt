@@ -1,9 +1,0 @@
-use Rattle.std.proofs.Common.{◌≡◌, length}
-use Rattle.adjoint.specs.Lanes.{lane_product, laned}
-use Rattle.adjoint.proofs.Laned.{partly}
-use Rattle.adjoint.proofs.lanes.with_products.Given as goal
-
-abbrev pub invariant-loop-i : goal.invariant-loop-i
-invariant-loop-i g l =
-    let f = lane_product g.N.Scalar.kind.ops l.mode l.m l.w l.rows l.vectors in
-    (length l.product ≡ l.w) × (partly f l.w l.lanes l.parts l.i ≡ laned f l.w 0 l.lanes l.initial.parts)
