@@ -29,7 +29,7 @@ abbrev pub made_for : {N T F : Type 0} → Model N T F → ℕ → Sizes → Boo
 made_for m channels s =
     (s.channels == channels) && (s.states == m.states && (s.parameters == m.parameters && (s.outputs == rows_of m && s.roots == m.roots)))
 
--- so but for the channels, as equations
+-- so but for the channels, as equations; a caller lends model and space apart, so it stands as a premise and in no type
 pub record Made {N T F : Type 0} (m : Model N T F) (s : Sizes) : Type 0 where
   pub states : s.states ≡ m.states
   pub parameters : s.parameters ≡ m.parameters

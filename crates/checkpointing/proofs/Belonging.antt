@@ -1,8 +1,9 @@
 -- Going down the segments one by one.
-use Rattle.std.proofs.Common.{◌≡◌, ℕ, zero, suc, ◌-◌, ◌<◌, ◌≤◌, Bool, true, false, cond, ◌⊎◌, List, length, Some, None, Option, sym, refl, ap, ◌∙◌, subst, inl, inr, arith}
+use Rattle.std.proofs.Common.{◌≡◌, ℕ, zero, suc, ◌+◌, ◌-◌, ◌<◌, ◌≤◌, Bool, true, false, cond, ◌⊎◌, List, length, take, Some, None, Option, sym, refl, ap, ◌∙◌, subst, inl, inr, arith, ◌==◌, slice_index_or}
+use Rattle.std.proofs.lemmas.List.{get_or_default, get_or-take}
 use Rattle.std.proofs.lemmas.Bool.{cases_lt}
 use Rattle.scalar.specs.Kind.{Kind}
-use Rattle.checkpointing.specs.Segments.{here, last_of, segment_of, Last}
+use Rattle.checkpointing.specs.Segments.{belongs, here, last_of, segment_of, Last}
 
 module _ {N T : Type 0} (k : Kind N T) (ends : List (T × T)) (t : T) where
   down : (n : ℕ) → 0 < n → last_of k ends t n ≡ cond (here k ends t (n - 1)) (Some (n - 1)) (last_of k ends t (n - 1))
@@ -14,6 +15,18 @@ module _ {N T : Type 0} (k : Kind N T) (ends : List (T × T)) (t : T) where
 
   pub passed : (n : ℕ) → 0 < n → false ≡ here k ends t (n - 1) → last_of k ends t n ≡ last_of k ends t (n - 1)
   passed n h e = down n h ∙ ap (λ b. cond b (Some (n - 1)) (last_of k ends t (n - 1))) (sym e)
+
+  -- the last of the first segments: what is asked of it is asked of a segment of the ride
+  pub front : (rest : List (T × T)) (a b : T × T) → 0 < length rest → rest ≡ take (length rest) ends
+      → a ≡ slice_index_or rest (length rest - 1) a → b ≡ slice_index_or rest (length rest - 1) b
+      → belongs k (length rest == length ends) a.0 b.1 t ≡ here k ends t (length rest - 1)
+  front rest a b h e p q =
+      let n : ℕ = length rest in
+      let up : n ≡ n - 1 + 1 = omega arith in
+      let at : slice_index_or rest (n - 1) (t, t) ≡ slice_index_or ends (n - 1) (t, t) = ap (λ xs. slice_index_or xs (n - 1) (t, t)) e ∙ get_or-take n ends (n - 1) (t, t) (omega arith) in
+      let x = p ∙ get_or_default rest (n - 1) a (t, t) (omega arith) ∙ at in
+      let y = q ∙ get_or_default rest (n - 1) b (t, t) (omega arith) ∙ at in
+      ap (λ (m : ℕ). belongs k (m == length ends) a.0 b.1 t) up ∙ ap (λ (z : T × T). belongs k (n - 1 + 1 == length ends) z.0 b.1 t) x ∙ ap (λ (z : T × T). belongs k (n - 1 + 1 == length ends) (slice_index_or ends (n - 1) (t, t)).0 z.1 t) y
 
   -- a segment that t does not belong to adds nothing
   still : (n : ℕ) → here k ends t n ≡ false → (i : ℕ) → i < suc n → (i < n → here k ends t i ≡ false) → (i < n) ⊎ (n ≤ i) → here k ends t i ≡ false

@@ -1,6 +1,6 @@
 // The value of the cubic that has given states and slopes at two times.
-ghost use Rattle.std.specs.Prelude.{◌≡◌, ◌+◌, ◌*◌, length};
-ghost use Rattle.checkpointing.specs.Knots.{share, cubic, hermite as hermite_of, between, knot_of};
+ghost use Rattle.std.specs.Prelude.{◌≡◌, length};
+ghost use Rattle.checkpointing.specs.Knots.{share, cubic, hermite as hermite_of, between};
 ghost use Rattle.checkpointing.specs.Weights.{Weighs};
 
 use scalar::Scalar;

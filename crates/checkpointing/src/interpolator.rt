@@ -36,7 +36,8 @@ impl<'a, N: Scalar> HermiteInterpolator<'a, N> {
         }
     }
 
-    // One knot more, after the others; false, and all stays, where it has another size or there is no room for it.
+    // One knot more, after the others; false, and all stays, where it has another size or there is no room for it. A bool, as
+    // a set's `insert` answers: nothing comes with it.
     pub fn push(&mut self, t: N::Time, u: &[N], f: &[N]) -> bool
         ensures made { result ≡ (length u.now == self.old.dim && (length f.now == self.old.dim && nat_le ((self.old.count + 1) * (1 + 2 * self.old.dim)) (length self.old.rows.now))) }
         ensures rows { self.new.rows.now ≡ (if result then paste self.old.rows.now (self.old.count * (1 + 2 * self.old.dim)) (N.Scalar.kind.value t ∷ (u.now ++ f.now)) (1 + 2 * self.old.dim) else self.old.rows.now) }

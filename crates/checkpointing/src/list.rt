@@ -1,7 +1,8 @@
 // What a list of knots is made of.
 ghost use Rattle.std.specs.Prelude.{◌+◌, ◌*◌, ◌≤◌, length};
 
-// The rows lie in the slice one after the other, so that whoever lends it keeps the memory.
+// The rows lie one after the other in a slice that is lent, with their number beside it, and in no Vec: whoever lends the
+// slice keeps the memory, as is a rule here for knots.
 #[derive(Drop)]
 pub struct HermiteInterpolator<'a, N> {
     pub(crate) rows: &'a mut [N],

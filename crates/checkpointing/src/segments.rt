@@ -17,11 +17,12 @@ pub fn segment_of<N: Scalar>(ends: &[(N::Time, N::Time)], t: N::Time) -> Option<
     ensures answer { result ≡ segment_of N.Scalar.kind ends.now t }
     ensures last { Last N.Scalar.kind ends.now t (length ends.now) result }
 {
-    for n in (0..ends.len()).rev() {
-        let (first, end) = ends[n];
-        if belongs::<N>(n + 1 == ends.len(), first, end, t) {
-            return Some(n);
+    let mut rest = ends;
+    while let [below @ .., (first, end)] = rest {
+        if belongs::<N>(rest.len() == ends.len(), *first, *end, t) {
+            return Some(below.len());
         }
+        rest = below;
     }
     None
 }

@@ -7,7 +7,7 @@ use crate::op::{Op, Wrt};
 use scalar::Scalar;
 
 // Fills `out` with the matrix that has so many columns, row by row. At a refusal the places before it are filled and the
-// others stay.
+// others stay. A struct of the function, what it is derived by and the columns would only be written out at each call.
 #[tactic(auto, using(crate::proofs::Fills::gathered_meets, std::proofs::lemmas::Grind::common_steps))]
 pub fn gather<N: Scalar, E: OdeEquations<N>>(
     eqn: &E,

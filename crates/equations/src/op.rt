@@ -1,4 +1,5 @@
-// The functions of a model, and what a derivative is taken by.
+// The functions of a model, and what a derivative is taken by. Models and layers match on them, and take no closures: a model
+// is a table of answers, which its definition writes out case by case as well.
 ghost use Rattle.std.specs.Prelude.{◌≡◌};
 ghost use Rattle.equations.specs.Model.{column as column_of};
 

@@ -16,7 +16,8 @@ pub trait Refusal<T> {
 
     ghost numbers: { List ℕ };
 
-    // The number of a fault, if there is one: a type of faults may have no values, and then no fault is ever given.
+    // The number of a fault, if there is one: a type of faults may have no values, and then no fault is ever given. The
+    // table of refusals is one of plain numbers, which programs print; in code a refusal is a case of an enum.
     fn number(fault: Option<&Self>) -> Option<u8>
         ensures { result ≡ option_map (λ e. (told e.now).number) fault.entry };
 

@@ -229,13 +229,11 @@ mod tests {
     #[test]
     fn long(rt: HostRuntime) -> Result<(), Fail> {
         let heap = rt.alloc();
-        let mut blanks = Vec::new(heap);
+        let blanks = vec![in heap; b' '; 1000000]?;
+        let nines = vec![in heap; b'9'; 1000000]?;
         let mut digits = Vec::new(heap);
         digits.extend_from_slice(b"segment t h z v dz dv\n")?;
-        for _ in 0..1000000 {
-            blanks.push(b' ')?;
-            digits.push(b'9')?;
-        }
+        digits.extend_from_slice(nines.as_slice())?;
         tells(
             &rt,
             heap,
