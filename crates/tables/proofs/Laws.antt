@@ -1,6 +1,7 @@
 -- What holds of every ride that is read.
-use Rattle.std.proofs.Common.{◌≡◌, ℕ, zero, suc, ◌+◌, ◌*◌, ◌<◌, ◌≤◌, Bool, true, false, cond, ◌||◌, eqb, leb, List, [], ◌∷◌, ◌++◌, length, get_or, drop, ℤ, pos, ◌+ℤ◌, neg_ℤ, nat_abs, Ok, Err, Result, sym, refl, ap, ◌∙◌, subst, inl, inr, ⊎_elim, mul-zero, mul-one, mul-add, arith}
+use Rattle.std.proofs.Common.{◌≡◌, ℕ, zero, suc, ◌+◌, ◌*◌, ◌<◌, ◌≤◌, Bool, true, false, cond, ◌||◌, eqb, leb, List, [], ◌∷◌, ◌++◌, length, get_or, drop, ℤ, pos, ◌+ℤ◌, nat_abs, Ok, Err, Result, sym, refl, ap, ◌∙◌, subst, inl, inr, ⊎_elim, mul-zero, mul-one, mul-add, arith}
 use Rattle.std.specs.Ordering.{int_eq}
+use Rattle.std.proofs.lemmas.Int.{ints}
 use Rattle.std.proofs.lemmas.Bool.Decides.{Decides-int_eq}
 use Rattle.std.proofs.ByRecursion.{All-append, All-weaker}
 use Rattle.std.proofs.lemmas.List.{length-append, length-drop, get_or-drop, drop-drop}
@@ -45,16 +46,12 @@ size_small m (c ∷ cs) n e =
     let same : decimal 0 (c ∷ cs) ≡ n = cc b.1 in
     subst (λ k. k ≤ m) same (leb-true _ m b.0)
 
-nat_abs-neg : (n : ℕ) → nat_abs (neg_ℤ (pos n)) ≡ n
-nat_abs-neg zero = refl
-nat_abs-neg (suc n) = refl
-
 whole_small : (m : ℕ) (w : List ℕ) (z : ℤ) → whole_of m w ≡ Ok z → nat_abs z ≤ m
 whole_small m [] z e = cc
 whole_small m (c ∷ cs) z e =
     ⊎_elim
     (λ t. let a = map_ok-ok _ (size_of m cs) z (sym (cond-true (eqb c 45) _ _ t) ∙ e) in
-    let same : a.0 ≡ nat_abs z = sym (nat_abs-neg a.0) ∙ ap nat_abs a.2 in subst (λ k. k ≤ m) same (size_small m cs a.0 a.1))
+    let same : a.0 ≡ nat_abs z = omega (arith, ints) in subst (λ k. k ≤ m) same (size_small m cs a.0 a.1))
     (λ t. let a = map_ok-ok _ (size_of m (c ∷ cs)) z (sym (cond-false (eqb c 45) _ _ t) ∙ e) in
     subst (λ k. k ≤ m) (ap nat_abs a.2) (size_small m (c ∷ cs) a.0 a.1))
     (cases_Bool (eqb c 45))

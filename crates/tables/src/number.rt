@@ -6,7 +6,7 @@ ghost use Rattle.tables.specs.Rides.{limit_of};
 use crate::faults::Wrong;
 
 // The largest distance from 0 that an `i64` holds on both sides.
-const MOST: u64 = 9223372036854775807;
+const MOST: u64 = i64::MAX as u64;
 
 // How far from 0 a number may be.
 #[derive(Clone, Copy)]
