@@ -11,7 +11,7 @@ use denote.Param.Members.{Mut}
 use Rattle.tables.specs.declared.faults.Part.{Part}
 use Rattle.tables.specs.Rides.{end_of}
 use Rattle.tables.specs.Tables.{Left, head_of}
-use Rattle.tables.specs.Steps.{NextLine, skip_of}
+use Rattle.tables.specs.Steps.{TakesLine, skip_of}
 use Rattle.tables.specs.Text.{is_blank}
 
 pub head_skip : (part : Part) (n : ℕ) (ls : List (List ℕ)) → head_of part n ls ≡ head_of part (skip_of n ls).0 (skip_of n ls).1
@@ -26,7 +26,7 @@ end_skip n (l ∷ ls) = let more = end_skip (n + 1) ls in grind (arith, common_s
 module _ {S A F : Type 0} (left : S → Left) (view : A → ℕ × List ℕ) (g : Mut F (Bor A × Unit {0}) Bool) (f : F)
     (law : (x : A) (b : Bool) (q : F) → CalledAt g f x b q → (q ≡ f) × (b ≡ not (is_blank (view x).1))) where
   abbrev Steps : S → Option A → S → Type 0
-  Steps s r t = NextLine (left s) (option_map view r) (left t)
+  Steps s r t = TakesLine (left s) (option_map view r) (left t)
 
   abbrev skip : Left → Left
   skip l = skip_of l.0 l.1
@@ -41,7 +41,7 @@ module _ {S A F : Type 0} (left : S → Left) (view : A → ℕ × List ℕ) (g 
       (here ∙ rest.0, rest.1)
 
   pub find_law : (s u : S) (j : F) (xs : List A) (t : S) (r : Option A) → Yields Steps s xs t → Steps t r u → FoldsTo (λ p x q. CalledAt g p x false q) f xs j
-      → MatchOption r ⊤ (λ x. (h : F) × CalledAt g j x true h) → NextLine (skip (left s)) (option_map view r) (left u)
+      → MatchOption r ⊤ (λ x. (h : F) × CalledAt g j x true h) → TakesLine (skip (left s)) (option_map view r) (left u)
   find_law s u j xs t None y e z l =
       let same : skip (left s) ≡ left t = (passed xs s t j y z).0 ∙ ap (skip_of (left t).0) e.0 ∙ ap (λ l. ((left t).0, l)) (sym e.0) in
       (ap (λ (l : Left). l.1) same ∙ e.0, e.1 ∙ sym same)

@@ -4,9 +4,9 @@ use Rattle.tables.specs.Tables.{Left}
 use Rattle.tables.specs.Text.{is_blank}
 
 -- the next line with its number, and the lines that are left after it; where no line is left there is none, and nothing changes
-abbrev pub NextLine : Left → Option (ℕ × List ℕ) → Left → Type 0
-NextLine before None after = (before.1 ≡ []) × (after ≡ before)
-NextLine before (Some line) after = (before ≡ (line.0, line.1 ∷ after.1)) × (after.0 ≡ line.0 + 1)
+abbrev pub TakesLine : Left → Option (ℕ × List ℕ) → Left → Type 0
+TakesLine before None after = (before.1 ≡ []) × (after ≡ before)
+TakesLine before (Some line) after = (before ≡ (line.0, line.1 ∷ after.1)) × (after.0 ≡ line.0 + 1)
 
 -- the lines from the first on that is not blank; the first that is given is the n-th
 abbrev pub skip_of : ℕ → List (List ℕ) → Left

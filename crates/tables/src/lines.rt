@@ -2,7 +2,7 @@
 ghost use Rattle.std.specs.Prelude.{◌≡◌, ◌+◌, ◌^◌, ◌<◌, ◌≤◌, length, option_map, IfSome, false};
 ghost use Rattle.std.specs.Iterator.{item_count};
 ghost use Rattle.tables.specs.Breaks.{is_end, First};
-ghost use Rattle.tables.specs.Steps.{NextLine, skip_of};
+ghost use Rattle.tables.specs.Steps.{TakesLine, skip_of};
 ghost use Rattle.tables.specs.Text.{lines_of, is_blank};
 
 use crate::breaks::next_break;
@@ -48,7 +48,7 @@ fn line_end(text: &[u8]) -> usize
 impl<'a> Iterator for Lines<'a> {
     type Item = Line<'a>;
 
-    ghost next_gives = { λ s r t. NextLine (s.number, lines_of s.rest.now) (option_map (λ line. (line.number, line.text.now)) r) (t.number, lines_of t.rest.now) };
+    ghost next_gives = { λ s r t. TakesLine (s.number, lines_of s.rest.now) (option_map (λ line. (line.number, line.text.now)) r) (t.number, lines_of t.rest.now) };
 
     ghost remaining = { item_count (λ s. lines_of s.rest.now) };
 
@@ -81,7 +81,7 @@ impl<'a> Lines<'a> {
 
     // The next line that has a word.
     pub(crate) fn next_full(&mut self) -> Option<Line<'a>>
-        ensures next { NextLine (skip_of self.old.number (lines_of self.old.rest.now)) (option_map (λ line. (line.number, line.text.now)) result) (self.new.number, lines_of self.new.rest.now) }
+        ensures next { TakesLine (skip_of self.old.number (lines_of self.old.rest.now)) (option_map (λ line. (line.number, line.text.now)) result) (self.new.number, lines_of self.new.rest.now) }
         ensures full { IfSome result (λ line. is_blank line.text.now ≡ false) }
     {
         self.find(|line| !line.is_blank())
