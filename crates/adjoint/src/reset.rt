@@ -117,8 +117,8 @@ fn reset_lanes<N: Scalar + Drop, E: OdeEquations<N>>(
     Ok(())
 }
 
-// On every lane s becomes the root product of α less the reset product of s, and sg loses the reset's parameter product and gains the
-// root's.
+// On every lane s becomes the root product of α less the reset product of s, and sg loses the reset's parameter product
+// and gains the root's.
 pub fn apply_reset_with_adjoint<N: Scalar + Drop, E: OdeEquations<N>>(
     eqn: &E,
     boundary: &Boundary<N>,
