@@ -78,11 +78,9 @@ pub fn apply_delta_g<N: Scalar + Drop, E: OdeEquations<N>>(
     ensures space { work.exit.now.sizes ≡ work.entry.now.sizes }
 {
     let states = eqn.nstates();
+    let rows = outputs(eqn);
     let lengths = [
-        (
-            fills(instant.columns, channels, outputs(eqn)),
-            Size::Columns,
-        ),
+        (fills(instant.columns, channels, rows), Size::Columns),
         vector_fits(eqn, channels, v),
         (instant.x.len() == states, Size::ForwardState),
         work.sizes.space_fits(eqn, channels),

@@ -24,7 +24,7 @@ pub struct Boundary<'a, N: Scalar> {
     pub t: N::Time,
     pub y: &'a [N],
     pub below: &'a [N],
-    // the slope at the upper segment's first
+    // the slope at the upper segment's first checkpoint
     pub above: &'a [N],
 }
 
@@ -75,7 +75,7 @@ fn cross<N: Scalar + Drop>(r: usize, rate: N, v: &mut [N], work: &mut Work<N>)
     by_old.meet(n, s, work.state.as_mut_slice());
 }
 
-// The boundary's derivatives, and as the answer how fast root r is crossed.
+// Puts the boundary's derivatives into the space, and answers how fast root r is crossed.
 fn derive<N: Scalar + Drop, E: OdeEquations<N>>(
     eqn: &E,
     r: usize,
@@ -97,7 +97,7 @@ fn derive<N: Scalar + Drop, E: OdeEquations<N>>(
     Ok(rate)
 }
 
-// With space that is made for the model.
+// Over root r, with space that is made for the model.
 fn reset_lanes<N: Scalar + Drop, E: OdeEquations<N>>(
     eqn: &E,
     r: usize,
@@ -117,8 +117,8 @@ fn reset_lanes<N: Scalar + Drop, E: OdeEquations<N>>(
     Ok(())
 }
 
-// s becomes the root product of α less the reset product of s, and sg loses the reset's parameter product and gains the
-// root's.
+// On every lane s becomes the root product of α less the reset product of s, and sg loses the reset's parameter product
+// and gains the root's.
 pub fn apply_reset_with_adjoint<N: Scalar + Drop, E: OdeEquations<N>>(
     eqn: &E,
     boundary: &Boundary<N>,

@@ -57,6 +57,7 @@ fn first_unfit<N: Scalar, E: OdeEquations<N>>(
     first_wrong(lengths)
 }
 
+// So, as a rule's answer.
 pub(crate) fn all_fit<N: Scalar, E: OdeEquations<N>>(
     eqn: &E,
     channels: usize,
