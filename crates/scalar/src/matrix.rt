@@ -29,6 +29,7 @@ struct Rows<'a, N> {
     ghost full: { length entries.now ≡ rows * columns },
 }
 
+// That an index lies within is a premise of each method: a type of such indices would be made anew at each call.
 impl<'a, N: Scalar> Rows<'a, N> {
     fn new(entries: &'a [N], rows: usize, columns: usize) -> Result<Rows<'a, N>, SizeFault>
         ensures { MatchResult result (λ m. IsTrue (fills entries.now rows columns) × (m.entries.now ≡ entries.now) × (m.rows ≡ rows) × (m.columns ≡ columns)) (λ e. (fills entries.now rows columns ≡ false) × (e ≡ Matrix)) }
