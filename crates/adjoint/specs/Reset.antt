@@ -62,7 +62,7 @@ module _ {N : Type 0} (o : Ops N) where
   abbrev pub alphas : List N → N → ℕ → ℕ → ℕ → List N → ℕ → List N
   alphas gap rate n r w s lanes = joined (λ i. at_root n r (alpha gap rate (lane_of w s i))) 0 lanes
 
-  -- so over root r, which is crossed at a rate, with the derivatives that working space holds
+  -- what the vector becomes where root r is crossed at a rate, with the sizes and the derivatives that stand in working space
   abbrev pub crossed_by : ℕ → N → Work N → List N → List N
   crossed_by r rate w v =
       let ns = w.sizes.states in
@@ -90,7 +90,7 @@ module _ {N T F : Type 0} (o : Ops N) (m : Model N T F) where
       and_then (entries_at Root TimeOnly 1 t y m.roots) (λ qt.
       cond (small o (rate_of o q qt below m.roots r)) (Err SmallDenominator) (Ok (record { reset = p; root = q; gap = gap_of o p pt below above m.states; rate = rate_of o q qt below m.roots r }))))))
 
-  -- An answer of the rate at which root r is crossed: working space holds the boundary's derivatives then.
+  -- If the rate at which root r is crossed is answered, working space holds the boundary's derivatives; else the first refusal is told.
   abbrev pub Derives : ℕ → Boundary N T → Result N (RuleFault F) → Work N → Type 0
   Derives r b (Ok rate) w =
       (terms_at r b.t b.y.now b.below.now b.above.now ≡ Ok (record { reset = w.crossing.reset_by_state.items; root = w.crossing.root_by_state.items; gap = w.crossing.gap.items; rate = rate }))

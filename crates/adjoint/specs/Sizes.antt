@@ -29,7 +29,8 @@ abbrev pub made_for : {N T F : Type 0} → Model N T F → ℕ → Sizes → Boo
 made_for m channels s =
     (s.channels == channels) && (s.states == m.states && (s.parameters == m.parameters && (s.outputs == rows_of m && s.roots == m.roots)))
 
--- so but for the channels, as equations; a caller lends model and space apart, so it stands as a premise and in no type
+-- The sizes of the model, the channels apart, as equations. A premise of functions that take model and space, and no type of the two:
+-- a caller lends each by itself, and uses it by itself between two rules.
 pub record Made {N T F : Type 0} (m : Model N T F) (s : Sizes) : Type 0 where
   pub states : s.states ≡ m.states
   pub parameters : s.parameters ≡ m.parameters

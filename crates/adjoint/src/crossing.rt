@@ -20,7 +20,7 @@ impl<'a, N: Scalar> Boundary<'a, N> {
     pub(crate) fn root_of<E: OdeEquations<N>>(&self, eqn: &E) -> Result<usize, RuleFault<E::Fault>>
         ensures { result ≡ rooted N.Scalar.kind.ops (E.OdeEquations.model eqn.now) self.now.segment self.now.root }
     {
-        // `ok_or` lets the fault go where there is a root, and not every model's fault may be let go
+        // not by `ok_or`, which asks for a fault that may be dropped: a model's need not be
         let Some(r) = self.root else {
             return Err(RuleFault::NoRootIndex(self.segment));
         };
@@ -129,7 +129,7 @@ impl<'a, N: Scalar> Alphas<'a, N> {
         requires { (length s.now ≡ lanes * length self.now.gap.now) × (length out.old ≡ lanes * self.now.roots) }
         ensures { out.new ≡ alphas N.Scalar.kind.ops self.now.gap.now self.now.rate self.now.roots self.now.root (length self.now.gap.now) s.now lanes }
     {
-        // a lane's places start inside the lent slice, so which lane it is is handed on with the slice
+        // not by `chunks_mut`: there may be no roots, and of what it lent a proof knows the length alone
         for i in 0..lanes {
             self.fill_lane(i, s, out);
         }

@@ -32,7 +32,7 @@ pub(crate) struct Product<'m, 'v, N> {
 
 // `space` is working space, as wide as a part.
 impl<'m, 'v, N: Scalar> Product<'m, 'v, N> {
-    // One lane's part, with that lane's vector.
+    // One lane's part becomes, loses or gains its product.
     fn meet_part(&self, vector: &[N], part: &mut [N], space: &mut [N])
         requires { (length self.now.matrix.now ≡ length vector.now * length part.old) × (length space.old ≡ length part.old) }
         ensures { part.new ≡ placewise (combined N.Scalar.kind.ops self.now.mode) part.old (product_of N.Scalar.kind.ops self.now.matrix.now (length part.old) vector.now) }
@@ -45,7 +45,7 @@ impl<'m, 'v, N: Scalar> Product<'m, 'v, N> {
         }
     }
 
-    // Lane i of all parts.
+    // The part of lane i, among those of all lanes.
     fn meet_lane(&self, i: usize, parts: &mut [N], space: &mut [N])
         requires matrix { length self.now.matrix.now ≡ self.now.rows * length space.old }
         requires vector { i * self.now.rows + self.now.rows ≤ length self.now.vectors.now }
@@ -64,7 +64,7 @@ impl<'m, 'v, N: Scalar> Product<'m, 'v, N> {
         requires { (length self.now.matrix.now ≡ self.now.rows * length space.old) × ((length self.now.vectors.now ≡ lanes * self.now.rows) × (length parts.old ≡ lanes * length space.old)) }
         ensures { parts.new ≡ with_products N.Scalar.kind.ops self.now.mode self.now.matrix.now (length space.old) self.now.rows self.now.vectors.now lanes parts.old }
     {
-        // a lane's part starts inside the lent slice, so which lane it is is handed on with the slice
+        // not by `chunks_mut`: a part may be empty, and of what it lent a proof knows the length alone
         for i in 0..lanes {
             self.meet_lane(i, parts, space);
         }

@@ -28,7 +28,7 @@ pub struct Boundary<'a, N: Scalar> {
     pub above: &'a [N],
 }
 
-// Over root r, crossed at a rate, with what the space holds of the boundary.
+// What crossing root r at a rate does to the vector, with the boundary's derivatives in working space.
 fn cross<N: Scalar + Drop>(r: usize, rate: N, v: &mut [N], work: &mut Work<N>)
     requires { length v.old ≡ vector_length work.now.sizes }
     ensures rule { v.new ≡ crossed_by N.Scalar.kind.ops r rate work.entry.now v.old }

@@ -57,7 +57,7 @@ fn first_unfit<N: Scalar, E: OdeEquations<N>>(
     first_wrong(lengths)
 }
 
-// So, as a rule's answer.
+// The same, with a wrong size as a rule's refusal.
 pub(crate) fn all_fit<N: Scalar, E: OdeEquations<N>>(
     eqn: &E,
     channels: usize,
@@ -65,11 +65,7 @@ pub(crate) fn all_fit<N: Scalar, E: OdeEquations<N>>(
 ) -> Result<(), RuleFault<E::Fault>>
     ensures { result ≡ sized (first_wrong (limits (E.OdeEquations.model eqn.now) channels ++ lengths.now)) (Ok tt) }
 {
-    // `map_err` has no proof here: what it passes on names the model's fault, which no argument of it does
-    match first_unfit(eqn, channels, lengths) {
-        Ok(()) => Ok(()),
-        Err(w) => Err(RuleFault::Size(w)),
-    }
+    first_unfit(eqn, channels, lengths).map_err(|w| RuleFault::Size(w))
 }
 
 impl Sizes {

@@ -74,7 +74,8 @@ pub(crate) struct Row<'a, N> {
     pub(crate) f: &'a [N],
 }
 
-// The state at t between two knots.
+// The state at t between two knots. That states and slopes are as long as the buffer is asked here, and is no ghost field of
+// a knot: a struct with one is not copied, and reads through one that is passed by value are not proved.
 pub(crate) fn fill_between<N: Scalar>(a: Row<N>, b: Row<N>, t: N, out: &mut [N])
     requires first { (length a.u.now ≡ length out.old) × (length a.f.now ≡ length out.old) }
     requires second { (length b.u.now ≡ length out.old) × (length b.f.now ≡ length out.old) }

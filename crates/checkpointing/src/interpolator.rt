@@ -36,34 +36,30 @@ impl<'a, N: Scalar> HermiteInterpolator<'a, N> {
         }
     }
 
-    // One knot more, after the others; false, and all stays, where it has another size or there is no room for it. A bool, as
-    // a set's `insert` answers: nothing comes with it.
-    pub fn push(&mut self, t: N::Time, u: &[N], f: &[N]) -> bool
-        ensures made { result ≡ (length u.now == self.old.dim && (length f.now == self.old.dim && nat_le ((self.old.count + 1) * (1 + 2 * self.old.dim)) (length self.old.rows.now))) }
-        ensures rows { self.new.rows.now ≡ (if result then paste self.old.rows.now (self.old.count * (1 + 2 * self.old.dim)) (N.Scalar.kind.value t ∷ (u.now ++ f.now)) (1 + 2 * self.old.dim) else self.old.rows.now) }
-        ensures knots { held N.Scalar.kind.ops self.new ≡ (if result then (held N.Scalar.kind.ops self.old ++ record { t = N.Scalar.kind.value t; u = u.now; f = f.now } ∷ []) else held N.Scalar.kind.ops self.old) }
-        ensures count { self.new.count ≡ (if result then self.old.count + 1 else self.old.count) }
+    // One knot more, after the others; None, and all stays, where it has another size or there is no room for it.
+    pub fn push(&mut self, t: N::Time, u: &[N], f: &[N]) -> Option<()>
+        ensures made { is_some result ≡ (length u.now == self.old.dim && (length f.now == self.old.dim && nat_le ((self.old.count + 1) * (1 + 2 * self.old.dim)) (length self.old.rows.now))) }
+        ensures rows { self.new.rows.now ≡ (if is_some result then paste self.old.rows.now (self.old.count * (1 + 2 * self.old.dim)) (N.Scalar.kind.value t ∷ (u.now ++ f.now)) (1 + 2 * self.old.dim) else self.old.rows.now) }
+        ensures knots { held N.Scalar.kind.ops self.new ≡ (if is_some result then (held N.Scalar.kind.ops self.old ++ record { t = N.Scalar.kind.value t; u = u.now; f = f.now } ∷ []) else held N.Scalar.kind.ops self.old) }
+        ensures count { self.new.count ≡ (if is_some result then self.old.count + 1 else self.old.count) }
         ensures dim { self.new.dim ≡ self.old.dim }
         ensures lender { self.new.rows.ghost_name ≡ self.old.rows.ghost_name }
     {
-        if u.len() != self.dim {
-            return false;
-        }
-        if f.len() != self.dim {
-            return false;
+        if u.len() != self.dim || f.len() != self.dim {
+            return None;
         }
         let len = self.rows.len();
         if len == 0 || self.dim > (len - 1) / 2 {
-            return false;
+            return None;
         }
         let w = 1 + 2 * self.dim;
         let a = self.count * w;
         if len - a < w {
-            return false;
+            return None;
         }
         fill_row(&mut self.rows[a..a + w], N::value(t), u, f);
         self.count += 1;
-        true
+        Some(())
     }
 
     // Knot k.

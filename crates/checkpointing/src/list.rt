@@ -1,4 +1,4 @@
-// What a list of knots is made of.
+// What a list of knots is made of. It stands apart from its functions, whose clauses use words that name this type.
 ghost use Rattle.std.specs.Prelude.{◌+◌, ◌*◌, ◌≤◌, length};
 
 // The rows lie one after the other in a slice that is lent, with their number beside it, and in no Vec: whoever lends the

@@ -54,7 +54,8 @@ impl<T> Refusal<T> for WrongSize {
     }
 }
 
-// The first of the tests that fails is told, with its size.
+// The first of the tests that fails is told, with its size. A test is a pair of its outcome and the size, as the definitions
+// of the rules list their tests.
 pub fn first_wrong(tests: &[(bool, Size)]) -> Result<(), WrongSize>
     ensures { result ≡ first_wrong tests.now }
 {

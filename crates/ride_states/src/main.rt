@@ -41,7 +41,7 @@ fn show(
 
 // The program takes no argument.
 fn refuse_arguments(rt: &HostRuntime) -> anyhow::Result<()> {
-    for arg in env::args(rt)?.skip(1) {
+    if let Some(arg) = env::args(rt)?.nth(1) {
         return Err(anyhow!(format!(in rt.alloc(); "unknown argument {arg}")?));
     }
     Ok(())

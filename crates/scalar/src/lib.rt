@@ -32,7 +32,7 @@ pub trait Scalar: Copy
         ensures { result ≡ kind.ops.abs self };
 
     // The three tests are the kind's own and not those of PartialOrd, whose laws make "at most" mean "before or equal": in a
-    // kind of ranges that fails, and all three may.
+    // kind of ranges that need not hold, and all three tests may fail.
     fn before(self, other: Self) -> bool
         ensures { result ≡ kind.ops.before self other };
 
@@ -42,7 +42,7 @@ pub trait Scalar: Copy
     fn at_most(self, other: Self) -> bool
         ensures { result ≡ kind.ops.at_most self other };
 
-    // The value nearest to n.
+    // The value nearest to n, so it loses digits, as no `From` may.
     fn whole(n: u64) -> Self
         ensures { result ≡ kind.ops.whole n };
 
@@ -52,7 +52,8 @@ pub trait Scalar: Copy
     fn root_eps() -> Self
         ensures { result ≡ kind.ops.root_eps };
 
-    // These two are not TryFrom and From: every generic function would have to name the two bounds beside this one.
+    // These two are not TryFrom and From: each is one clause here; as impls they need an error type, two laws of this trait
+    // and two impls for each format.
     fn time(self) -> Option<Self::Time>
         ensures { result ≡ kind.time self };
 

@@ -82,7 +82,8 @@ impl<'a, N: Scalar> Rows<'a, N> {
     }
 }
 
-// Writes f(i) to each place i.
+// Writes f(i) to each place i. Private, since a public function here asks nothing of its caller, and this one must ask
+// that f may be called.
 fn fill<N: Copy, F: Fn(usize) -> N>(out: &mut [N], f: F)
     requires { (i : ℕ) → i < length out.old → F.pre f i }
     ensures { (entry : ℕ → N) → ((i : ℕ) (r : N) → F.post f i r → r ≡ entry i) → out.new ≡ map entry (range_with_len 0 (length out.old)) }

@@ -40,7 +40,7 @@ pub enum Fault {
     Line(usize, Wrong),
 }
 
-// Written by hand, since `read` says of want of memory that it is told as `Memory`.
+// By hand: a derive would fill a field, and `Memory` has none; and `read` says that want of memory is told as `Memory`.
 impl From<AllocError> for Fault {
     ghost from_gives = { λ _ r. r ≡ Memory };
 

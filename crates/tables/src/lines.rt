@@ -25,7 +25,7 @@ impl Line<'_> {
 }
 
 // What is left of the text, line by line, and the number of the next line. Each line before it had at least its newline,
-// so the number is never large.
+// so the number and the bytes that are left stay below 2 ^ 64 together.
 #[derive(Drop)]
 pub struct Lines<'a> {
     rest: &'a [u8],
@@ -34,7 +34,8 @@ pub struct Lines<'a> {
     ghost few: { number + length rest.now < 2 ^ 64 },
 }
 
-// Where the first line ends: at its newline or the text's end. It leaps from break to break, so no `for` counts its place.
+// Where the first line ends: at its newline or the text's end. By `next_break` and
+// from break to break, since the reader looks for breaks in one place only; so no `for` counts.
 fn line_end(text: &[u8]) -> usize
     ensures { First is_end text.now 0 result }
 {
