@@ -15,7 +15,7 @@ jump_out-requires g c =
     let b = c.args.instant.now in
     let s = c.args.work.now.sizes in
     let v = c.args.v.now in
-    let fits = rw (c.fills.ensures, c.outputs-rows.ensures, c.vector_fits.ensures, c.nstates-states.ensures, c.space_fits.ensures) at c.in_ok-all_fit.ensures in
+    let fits = simp (c.fills.ensures, c.outputs-rows.ensures, c.vector_fits.ensures, c.nstates-states.ensures, c.space_fits.ensures) at c.in_ok-all_fit.ensures in
     let right =
     passed (limits m n) ((eqb (length b.columns.now) (n * rows_of m), Columns) ∷ vector_fits o m n v ∷ (eqb (length b.x.now) m.states, ForwardState) ∷ space_fits o m n s ∷ []) fits in
     let made = is_made m n s right.1.1.1.0 in
@@ -32,6 +32,6 @@ returns-in_err-all_fit-clause-rule g c =
     let n = c.args.channels in
     let b = c.args.instant.now in
     let v = c.args.v.now in
-    let fits = rw (c.fills.ensures, c.outputs-rows.ensures, c.vector_fits.ensures, c.nstates-states.ensures, c.space_fits.ensures) at c.in_err-all_fit.ensures in
+    let fits = simp (c.fills.ensures, c.outputs-rows.ensures, c.vector_fits.ensures, c.nstates-states.ensures, c.space_fits.ensures) at c.in_err-all_fit.ensures in
     let tests = (eqb (length b.columns.now) (n * rows_of m), Columns) ∷ vector_fits o m n v ∷ (eqb (length b.x.now) m.states, ForwardState) ∷ space_fits o m n c.args.work.now.sizes ∷ [] in
     stopped (first_wrong (limits m n ++ tests)) _ c.in_err-all_fit.field-0.0 c.from_residual.result v fits (search rules)
