@@ -1,5 +1,5 @@
 // What a boundary gives to every lane.
-ghost use Rattle.std.specs.Prelude.{◌≡◌, ◌+◌, ◌*◌, ◌<◌, ◌≤◌, length, if◌then◌else◌, nat_eq};
+ghost use Rattle.std.specs.Prelude.{◌≡◌, ◌+◌, ◌*◌, ◌<◌, ◌≤◌, length, vec_len, if◌then◌else◌, nat_eq};
 ghost use borrow.Rule.Slice.PartMut.{put_mid};
 ghost use Rattle.adjoint.specs.Lanes.{lane_of};
 ghost use Rattle.adjoint.specs.Reset.{gap_of, rate_of, small, alpha as alpha_of, at_root, alphas, rooted, entries_at, terms_at, terms_of};
@@ -145,19 +145,20 @@ impl<N: Scalar + Drop> Crossing<N> {
         r: usize,
         boundary: &Boundary<N>,
     ) -> Result<N, RuleFault<E::Fault>>
-        requires sizes { (self.now.states ≡ (E.OdeEquations.model eqn.now).states) × (self.now.roots ≡ (E.OdeEquations.model eqn.now).roots) }
-        requires slope { length boundary.now.below.now ≡ self.now.states }
-        requires root { r < self.now.roots }
+        requires sizes { (vec_len self.now.gap ≡ (E.OdeEquations.model eqn.now).states) × (vec_len self.now.rates ≡ (E.OdeEquations.model eqn.now).roots) }
+        requires slope { length boundary.now.below.now ≡ vec_len self.now.gap }
+        requires root { r < vec_len self.now.rates }
         ensures terms { terms_at N.Scalar.kind.ops (E.OdeEquations.model eqn.now) r boundary.now.t boundary.now.y.now boundary.now.below.now boundary.now.above.now ≡ terms_of result self.exit.now.reset_by_state.items self.exit.now.root_by_state.items self.exit.now.gap.items }
-        ensures sizes { (self.exit.now.states ≡ self.entry.now.states) × (self.exit.now.roots ≡ self.entry.now.roots) }
+        ensures sizes { (vec_len self.exit.now.gap ≡ vec_len self.entry.now.gap) × (vec_len self.exit.now.rates ≡ vec_len self.entry.now.rates) }
     {
+        let states = self.gap.len();
         let p = self.reset_by_state.as_mut_slice();
         let pt = self.reset_by_time.as_mut_slice();
         let q = self.root_by_state.as_mut_slice();
         let qt = self.root_by_time.as_mut_slice();
-        boundary.gather(eqn, Op::Reset, Wrt::States, self.states, p)?;
+        boundary.gather(eqn, Op::Reset, Wrt::States, states, p)?;
         boundary.gather(eqn, Op::Reset, Wrt::TimeOnly, 1, pt)?;
-        boundary.gather(eqn, Op::Root, Wrt::States, self.states, q)?;
+        boundary.gather(eqn, Op::Root, Wrt::States, states, q)?;
         boundary.gather(eqn, Op::Root, Wrt::TimeOnly, 1, qt)?;
         let below = boundary.below;
         slope_gap(p, pt, below, boundary.above, self.gap.as_mut_slice());

@@ -8,8 +8,6 @@ use std::alloc::{AllocError, Global};
 // For what a boundary gives to every lane.
 #[derive(Drop)]
 pub(crate) struct Crossing<N: Drop> {
-    pub(crate) states: usize,
-    pub(crate) roots: usize,
     pub(crate) reset_by_state: Vec<N>,
     pub(crate) reset_by_time: Vec<N>,
     pub(crate) root_by_state: Vec<N>,
@@ -18,9 +16,8 @@ pub(crate) struct Crossing<N: Drop> {
     pub(crate) gap: Vec<N>,
     // the roots' derivatives along the slope
     pub(crate) rates: Vec<N>,
-    ghost by_state: { (vec_len reset_by_state ≡ states * states) × (vec_len root_by_state ≡ roots * states) },
-    ghost by_time: { (vec_len reset_by_time ≡ states) × (vec_len root_by_time ≡ roots) },
-    ghost rows: { (vec_len gap ≡ states) × (vec_len rates ≡ roots) },
+    ghost by_state: { (vec_len reset_by_state ≡ vec_len gap * vec_len gap) × (vec_len root_by_state ≡ vec_len rates * vec_len gap) },
+    ghost by_time: { (vec_len reset_by_time ≡ vec_len gap) × (vec_len root_by_time ≡ vec_len rates) },
 }
 
 #[derive(Drop)]
@@ -42,7 +39,7 @@ pub struct Work<N: Drop> {
     pub(crate) gradient: Vec<N>,
     ghost outs: { (vec_len out_by_state ≡ sizes.outputs * sizes.states) × (vec_len out_by_parameter ≡ sizes.outputs * sizes.parameters) },
     ghost by_parameters: { (vec_len by_parameter ≡ sizes.states * sizes.parameters) × (vec_len root_by_parameter ≡ sizes.roots * sizes.parameters) },
-    ghost crossings: { (crossing.states ≡ sizes.states) × (crossing.roots ≡ sizes.roots) },
+    ghost crossings: { (vec_len crossing.gap ≡ sizes.states) × (vec_len crossing.rates ≡ sizes.roots) },
     ghost lanes: { (vec_len old ≡ sizes.channels * sizes.states) × (vec_len alphas ≡ sizes.channels * sizes.roots) },
     ghost products: { (vec_len state ≡ sizes.states) × (vec_len gradient ≡ sizes.parameters) },
 }
@@ -64,11 +61,9 @@ fn matrix<N: Scalar + Drop>(heap: Global, rows: usize, columns: usize) -> Result
 impl<N: Scalar + Drop> Crossing<N> {
     fn new(heap: Global, states: usize, roots: usize) -> Result<Crossing<N>, AllocError>
         requires { (states ≤ 16) × (roots ≤ 16) }
-        ensures { IfOk result (λ w. (w.states ≡ states) × (w.roots ≡ roots)) }
+        ensures { IfOk result (λ w. (vec_len w.gap ≡ states) × (vec_len w.rates ≡ roots)) }
     {
         Ok(Crossing {
-            states,
-            roots,
             reset_by_state: matrix(heap, states, states)?,
             reset_by_time: zeros(heap, states)?,
             root_by_state: matrix(heap, roots, states)?,
