@@ -14,6 +14,7 @@ import sys
 LINES = {
     '1': [
         ('a flag beside a buffer that is written', r'&mut .*-> bool'),
+        ('a flag with a value beside it', r'\(bool, \w+\)'),
         ('no word, as two ends that are the same', r'\b(start|begin) == \w|rest\.start =='),
         ('an error handed on by hand', r'Err\(\w+\) =>.*Err\(|if let Err\('),
         ('an Option taken apart to make another or a test', r'None => (None|false)\b|Some\(_\) => Some'),
@@ -29,13 +30,13 @@ LINES = {
     '4': [
         ('an impl of a trait of std', r'impl.* (From|TryFrom|Into|fmt::Display|PartialEq|Eq|PartialOrd|Ord|Clone|Copy|Debug|Hash|Default)(<.*>)? for '),
         ('a test of order or equality', r'fn (before|equals|at_most|is_before|is_equal|compare)\b'),
-        ('a conversion', r'fn (time\(self|value\(t:|whole\(n:|integer|column)'),
+        ('a conversion', r'fn (time\(self|value\(t:|whole\(n:|integer\b|column\()'),
     ],
     '6': [
-        ('rows in one flat list', r'\bVec<i64>|width: usize|7 \* k|2 \* k|chunks\('),
+        ('rows in one flat list', r'\bVec<i64>|^\s*width: usize|7 \* k|2 \* k|chunks\('),
         ('a list with its length beside it', r'count: usize'),
     ],
-    '7': [('a switch on a kind', r'match (mode|op|wrt|by)\b')],
+    '7': [('a switch on a kind', r'match \(?(self\.)?(mode|op|wrt|by|outputs)\b')],
 }
 
 
