@@ -129,7 +129,8 @@ impl<'a, N: Scalar> Alphas<'a, N> {
         requires { (length s.now ≡ lanes * length self.now.gap.now) × (length out.old ≡ lanes * self.now.roots) }
         ensures { out.new ≡ alphas N.Scalar.kind.ops self.now.gap.now self.now.rate self.now.roots self.now.root (length self.now.gap.now) s.now lanes }
     {
-        // not by `chunks_mut`: there may be no roots, and of what it lent a proof knows the length alone
+        // Not by `chunks_mut`: there may be no roots, and of what it lent a proof knows the length alone. `Product::meet` has
+        // this loop too: with the step as a closure its equation would be a relation over the closure's calls.
         for i in 0..lanes {
             self.fill_lane(i, s, out);
         }

@@ -64,7 +64,7 @@ impl<'m, 'v, N: Scalar> Product<'m, 'v, N> {
         requires { (length self.now.matrix.now ≡ self.now.rows * length space.old) × ((length self.now.vectors.now ≡ lanes * self.now.rows) × (length parts.old ≡ lanes * length space.old)) }
         ensures { parts.new ≡ with_products N.Scalar.kind.ops self.now.mode self.now.matrix.now (length space.old) self.now.rows self.now.vectors.now lanes parts.old }
     {
-        // not by `chunks_mut`: a part may be empty, and of what it lent a proof knows the length alone
+        // Not by `chunks_mut`: a part may be empty, and of what it lent a proof knows the length alone.
         for i in 0..lanes {
             self.meet_lane(i, parts, space);
         }
