@@ -21,7 +21,8 @@ pub enum Mode {
 }
 
 // A product that every lane meets: of one matrix, which lies row by row and is as wide as a lane's part, and the lane's own
-// vector, which has as many numbers as the matrix has rows.
+// vector, which has as many numbers as the matrix has rows. Matrix and lanes lie in flat slices with a size beside them, and
+// in no arrays: the sizes are the model's, and the lanes are one lent slice, which is a rule of the project.
 #[derive(Clone, Copy)]
 pub(crate) struct Product<'m, 'v, N> {
     pub(crate) mode: Mode,

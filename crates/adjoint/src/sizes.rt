@@ -33,7 +33,8 @@ fn is_both(entries: usize, n: usize, width: usize, other: usize) -> bool
         == Some(entries)
 }
 
-// Whether a vector holds all s and all sg.
+// Whether a vector holds all s and all sg. Model and channels go side by side here, as they are handed to the rules: a struct
+// of the two would be made anew in each.
 pub(crate) fn vector_fits<N: Scalar, E: OdeEquations<N>>(
     eqn: &E,
     channels: usize,

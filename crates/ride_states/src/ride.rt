@@ -44,15 +44,9 @@ pub(crate) fn ends(
     points: &[Checkpoint],
 ) -> anyhow::Result<Vec<(Finite64, Finite64)>> {
     let mut out = Vec::new(heap);
-    let mut first: Option<Finite64> = None;
-    let mut points = points.iter().peekable();
-    while let Some(p) = points.next() {
-        let begin = first.unwrap_or(p.t);
-        if points.peek().is_some_and(|next| next.segment == p.segment) {
-            first = Some(begin);
-        } else {
-            out.push((begin, p.t))?;
-            first = None;
+    for segment in points.chunk_by(|a, b| a.segment == b.segment) {
+        if let Some((first, last)) = segment.first().zip(segment.last()) {
+            out.push((first.t, last.t))?;
         }
     }
     Ok(out)

@@ -34,8 +34,8 @@ pub struct Lines<'a> {
     ghost few: { number + length rest.now < 2 ^ 64 },
 }
 
-// Where the first line ends: at its newline or the text's end. By `next_break` and
-// from break to break, since the reader looks for breaks in one place only; so no `for` counts.
+// Where the first line ends: at its newline or the text's end. By `next_break` and from break to break, since the reader
+// looks for breaks in one place only; so no `for` counts.
 fn line_end(text: &[u8]) -> usize
     ensures { First is_end text.now 0 result }
 {
