@@ -67,24 +67,25 @@ row_law m (suc k) (w ∷ ws) zs e =
     let rest = row_law m k ws b.0 b.1 in
     subst (λ l. (length l ≡ suc k) × Within m l) b.2 (ap suc rest.0, (whole_small m w a.0 a.1, rest.1))
 
--- the rows of a table are so many numbers each, and no number is too large
-abbrev pub Rowed : ℕ → ℕ → List ℤ × Left → Type 0
-Rowed m width p = (k : ℕ) × (length p.0 ≡ width * k) × Within m p.0
+-- the rows of a table are so many numbers each, each row has a line, and no number is too large
+abbrev pub Rowed : ℕ → ℕ → ℕ → List ℤ × Left → Type 0
+Rowed m width n p = (k : ℕ) × (length p.0 ≡ width * k) × (n + k ≤ p.1.0) × Within m p.0
 
-no_rows : (m width q : ℕ) (ls : List (List ℕ)) (r : Result (List ℤ × Left) Fault) (p : List ℤ × Left) → r ≡ Ok ([], (q, ls)) → r ≡ Ok p → Rowed m width p
-no_rows m width q ls r p d e = let same : ([], (q, ls)) ≡ p = cc in subst (Rowed m width) same (0, sym (mul-zero width), tt)
+no_rows : (m width n q : ℕ) (ls : List (List ℕ)) (r : Result (List ℤ × Left) Fault) (p : List ℤ × Left) → n ≤ q → r ≡ Ok ([], (q, ls)) → r ≡ Ok p → Rowed m width n p
+no_rows m width n q ls r p h d e = let same : ([], (q, ls)) ≡ p = cc in subst (Rowed m width n) same (0, sym (mul-zero width), omega arith, tt)
 
-rows_law : (m width n : ℕ) (ls : List (List ℕ)) (p : List ℤ × Left) → rows_of m width n ls ≡ Ok p → Rowed m width p
-rows_law m width n [] p e = no_rows m width n [] _ p refl e
+pub rows_law : (m width n : ℕ) (ls : List (List ℕ)) (p : List ℤ × Left) → rows_of m width n ls ≡ Ok p → Rowed m width n p
+rows_law m width n [] p e = no_rows m width n n [] _ p (omega arith) refl e
 rows_law m width n (l ∷ ls) p e =
     ⊎_elim
-    (λ t. no_rows m width (n + 1) ls _ p (cond-true (is_blank l) _ _ t) e)
+    (λ t. no_rows m width n (n + 1) ls _ p (omega arith) (cond-true (is_blank l) _ _ t) e)
     (λ t. let a = and_then-ok (at_line n (row_of m width (words_of l))) _ p (sym (cond-false (is_blank l) _ _ t) ∙ e) in
     let b = map_ok-ok _ (rows_of m width (n + 1) ls) p a.2 in
     let one = row_law m width (words_of l) a.0 (at_line-ok n _ a.0 a.1) in
     let rest = rows_law m width (n + 1) ls b.0 b.1 in
     let long : length (a.0 ++ b.0.0) ≡ width * (rest.0 + 1) = omega (arith, length-append a.0 b.0.0, one.0, rest.1, mul-add width rest.0 1, mul-one width) in
-    subst (Rowed m width) b.2 (rest.0 + 1, long, All-append _ a.0 b.0.0 one.1 rest.2))
+    let lines : n + (rest.0 + 1) ≤ b.0.1.0 = omega (arith, rest.2) in
+    subst (Rowed m width n) b.2 (rest.0 + 1, long, lines, All-append _ a.0 b.0.0 one.1 rest.3))
     (cases_Bool (is_blank l))
 
 -- the order of the segments
@@ -130,13 +131,13 @@ checkpoints_law m n ls p e =
     let order = order_law a.0.0 b.0.0 d.1 in
     subst (λ q. ((k : ℕ) × (1 ≤ k) × (length q.0 ≡ 7 * k)) × (get_or q.0 0 (pos 0) ≡ pos 0)
     × ((k : ℕ) → 7 * (k + 1) < length q.0 → Follows (get_or q.0 (7 * k) (pos 0)) (get_or q.0 (7 * (k + 1)) (pos 0))) × Within m q.0) d.2
-    ((rows.0, omega (arith, rows.1, order.0), rows.1), order.1, order.2, rows.2)
+    ((rows.0, omega (arith, rows.1, order.0), rows.1), order.1, order.2, rows.3)
 
 samples_law : (m n : ℕ) (ls : List (List ℕ)) (p : List ℤ × Left) → samples_of m n ls ≡ Ok p → ((k : ℕ) × (length p.0 ≡ 2 * k)) × Within m p.0
 samples_law m n ls p e =
     let a = and_then-ok (head_of Samples n ls) _ p e in
     let rows = rows_law m 2 a.0.0 a.0.1 p a.2 in
-    ((rows.0, rows.1), rows.2)
+    ((rows.0, rows.1), rows.3)
 
 last_law : (m n : ℕ) (ls : List (List ℕ)) (zs : List ℤ) → last_of m n ls ≡ Ok zs → (length zs ≡ 5) × Within m zs
 last_law m n [] zs e = cc
