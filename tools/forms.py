@@ -1,16 +1,16 @@
 #!/usr/bin/env python3
 """Lists the places of src/ that have one of the older forms that docs/DESIGN-PASS.md speaks of.
 
-    python3 tools/forms.py COMMIT [POINT ..]
+    python3 tools/forms.py COMMIT [KIND ..]
 
-It reads the files of COMMIT, not the working tree, and prints for each point its places and their number. A place is
+It reads the files of COMMIT, not the working tree, and prints for each kind, numbered as on that page, its places and their number. A place is
 where to look: whether it stays, and why, is said beside it.
 """
 import re
 import subprocess
 import sys
 
-# point: (what it is, a line's pattern)
+# kind: (what it is, a line's pattern)
 LINES = {
     '1': [
         ('a flag beside a buffer that is written', r'&mut .*-> bool'),
@@ -85,13 +85,13 @@ def show(title, places):
 
 
 def main():
-    commit, *points = sys.argv[1:]
+    commit, *kinds = sys.argv[1:]
     files = list(sources(commit))
-    for point in points or ['1', '2', '3', '4', '5', '6', '7']:
-        print(f'point {point}')
-        for title, pattern in LINES.get(point, []):
+    for kind in kinds or ['1', '2', '3', '4', '5', '6', '7']:
+        print(f'kind {kind}')
+        for title, pattern in LINES.get(kind, []):
             show(title, by_line(files, pattern))
-        if point == '5':
+        if kind == '5':
             show('seven parameters and more', many_parameters(files))
             show('a fact that three requires clauses ask or more', repeated_facts(files))
 

@@ -62,15 +62,22 @@ module _ {N : Type 0} (o : Ops N) where
   abbrev pub alphas : List N → N → ℕ → ℕ → ℕ → List N → ℕ → List N
   alphas gap rate n r w s lanes = joined (λ i. at_root n r (alpha gap rate (lane_of w s i))) 0 lanes
 
-  -- what the vector becomes where root r is crossed at a rate, with the sizes and the derivatives that stand in working space
+  -- The vector of n lanes with so many states, parameters and roots, from its old s and sg. β has each lane's α. s becomes the root product of α, less the
+  -- reset product of the old s; sg loses the old s's reset parameter product (entries pp), then gains the root's (entries qp).
+  abbrev pub crossed_with : ℕ → ℕ → ℕ → ℕ → Terms N → List N → List N → List N → List N → List N → List N
+  crossed_with n ns np nr k pp qp β s sg =
+      with_products o Lose k.reset ns ns s n (with_products o Become k.root ns nr β n s)
+      ++ with_products o Gain qp np nr β n (with_products o Lose pp np ns s n sg)
+
+  -- so where root r is crossed at a rate, with the sizes and the derivatives that stand in working space
   abbrev pub crossed_by : ℕ → N → Work N → List N → List N
   crossed_by r rate w v =
-      let ns = w.sizes.states in
       let n = w.sizes.channels in
+      let ns = w.sizes.states in
+      let nr = w.sizes.roots in
       let s = take (n * ns) v in
-      let β = alphas w.crossing.gap.items rate w.sizes.roots r ns s n in
-      with_products o Lose w.crossing.reset_by_state.items ns ns s n (with_products o Become w.crossing.root_by_state.items ns w.sizes.roots β n s)
-      ++ with_products o Gain w.root_by_parameter.items w.sizes.parameters w.sizes.roots β n (with_products o Lose w.by_parameter.items w.sizes.parameters ns s n (drop (n * ns) v))
+      let k : Terms N = record { reset = w.crossing.reset_by_state.items; root = w.crossing.root_by_state.items; gap = w.crossing.gap.items; rate = rate } in
+      crossed_with n ns w.sizes.parameters nr k w.by_parameter.items w.root_by_parameter.items (alphas k.gap rate nr r ns s n) s (drop (n * ns) v)
 
 module _ {N T F : Type 0} (o : Ops N) (m : Model N T F) where
   -- the root that ended the segment below
@@ -103,12 +110,9 @@ module _ {N T F : Type 0} (o : Ops N) (m : Model N T F) where
       ≡ Err e
 
   module _ (channels : ℕ) where
-    -- s becomes the root product of α, less the reset product of the old s; sg loses the old s's reset parameter product (entries pp),
-    -- then gains the root's (entries qp)
+    -- so with the sizes of the model
     abbrev pub crossed : Terms N → List N → List N → List N → List N → List N
-    crossed k pp qp β v =
-        with_products o Lose k.reset m.states m.states (states o m channels v) channels (with_products o Become k.root m.states m.roots β channels (states o m channels v))
-        ++ with_products o Gain qp m.parameters m.roots β channels (with_products o Lose pp m.parameters m.states (states o m channels v) channels (gradients o m channels v))
+    crossed k pp qp β v = crossed_with o channels m.states m.parameters m.roots k pp qp β (states o m channels v) (gradients o m channels v)
 
     abbrev pub reset_at : ℕ → T → List N → List N → List N → List N → Result (List N) (RuleFault F)
     reset_at r t y below above v =
