@@ -58,7 +58,7 @@ pub fn correct_sg_for_init<N: Scalar + Drop, E: OdeEquations<N>>(
     ensures space { work.exit.now.sizes ≡ work.entry.now.sizes }
 {
     let lengths = [
-        vector_fits(eqn, channels, v),
+        vector_fits(eqn, eqn.nstates(), channels, v),
         work.sizes.space_fits(eqn, channels),
     ];
     all_fit(eqn, channels, &lengths)?;

@@ -81,7 +81,7 @@ pub fn apply_delta_g<N: Scalar + Drop, E: OdeEquations<N>>(
     let rows = outputs(eqn);
     let lengths = [
         (fills(instant.columns, channels, rows), Size::Columns),
-        vector_fits(eqn, channels, v),
+        vector_fits(eqn, states, channels, v),
         (instant.x.len() == states, Size::ForwardState),
         work.sizes.space_fits(eqn, channels),
     ];

@@ -47,7 +47,12 @@ pub struct Work<N: Drop> {
 fn zeros<N: Scalar + Drop>(heap: Global, n: usize) -> Result<Vec<N>, AllocError>
     ensures { IfOk result (λ v. vec_len v ≡ n) }
 {
-    vec![in heap; N::whole(0); n]
+    // not by `vec!`, which clones: a kind's own clone may fail where there is memory
+    let mut v = Vec::with_capacity(heap, n)?;
+    for _ in 0..n {
+        v.push(N::whole(0))?;
+    }
+    Ok(v)
 }
 
 // Zeros for a matrix.
