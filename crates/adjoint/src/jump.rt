@@ -46,7 +46,8 @@ fn jump_out<N: Scalar + Drop, E: OdeEquations<N>>(
     let lost = Product {
         mode: Mode::Lose,
         matrix: p,
-        rows: sizes.outputs,
+        // the model's own number, which is often known where the rule is called
+        rows: outputs(eqn),
         vectors: columns,
     };
     let (s, sg) = v.split_at_mut(sizes.channels * sizes.states);
