@@ -32,7 +32,7 @@ pub(crate) struct Product<'m, 'v, N> {
 }
 
 // `space` is working space, as wide as a part. Inlined into each rule, whose mode is fixed there, and a small model's sizes
-// with it: as calls the products of the contact model took up to three times as long.
+// with it: as calls the products of the contact model took two to three and a half times as long.
 impl<'m, 'v, N: Scalar> Product<'m, 'v, N> {
     // One lane's part becomes, loses or gains its product.
     #[inline(always)]

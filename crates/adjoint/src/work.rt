@@ -48,11 +48,7 @@ fn zeros<N: Scalar + Drop>(heap: Global, n: usize) -> Result<Vec<N>, AllocError>
     ensures { IfOk result (λ v. vec_len v ≡ n) }
 {
     // not by `vec!`, which clones: a kind's own clone may fail where there is memory
-    let mut v = Vec::with_capacity(heap, n)?;
-    for _ in 0..n {
-        v.push(N::whole(0))?;
-    }
-    Ok(v)
+    (0..n).map(|_| N::whole(0)).collect(heap)
 }
 
 // Zeros for a matrix.
