@@ -39,7 +39,8 @@ fn correct_lanes<N: Scalar + Drop, E: OdeEquations<N>>(
     let product = Product {
         mode: Mode::Lose,
         matrix,
-        rows: sizes.states,
+        // the model's own number, which is often known where the rule is called: the loop is then made for it
+        rows: eqn.nstates(),
         vectors: s,
     };
     product.meet(sizes.channels, sg, work.gradient.as_mut_slice());
