@@ -39,7 +39,8 @@ fn correct_lanes<N: Scalar + Drop, E: OdeEquations<N>>(
     let product = Product {
         mode: Mode::Lose,
         matrix,
-        rows: sizes.states,
+        // the model's own number, which is often known where the rule is called: the loop is then made for it
+        rows: eqn.nstates(),
         vectors: s,
     };
     product.meet(sizes.channels, sg, work.gradient.as_mut_slice());
@@ -58,7 +59,7 @@ pub fn correct_sg_for_init<N: Scalar + Drop, E: OdeEquations<N>>(
     ensures space { work.exit.now.sizes ≡ work.entry.now.sizes }
 {
     let lengths = [
-        vector_fits(eqn, channels, v),
+        vector_fits(eqn, eqn.nstates(), channels, v),
         work.sizes.space_fits(eqn, channels),
     ];
     all_fit(eqn, channels, &lengths)?;

@@ -24,14 +24,17 @@ pub struct Instant<'a, N: Scalar> {
     pub columns: &'a [N],
 }
 
-// With an output function, and space that is made for the model.
+// With an output function of so many rows, and space that is made for the model. The space has their number too; the model's
+// own is often known where the rule is called, and the loops are then made for it.
 fn jump_out<N: Scalar + Drop, E: OdeEquations<N>>(
     eqn: &E,
+    rows: usize,
     instant: &Instant<N>,
     v: &mut [N],
     work: &mut Work<N>,
 ) -> Result<(), E::Fault>
     requires space { Made (E.OdeEquations.model eqn.now) work.now.sizes }
+    requires rows { rows ≡ work.now.sizes.outputs }
     requires columns { length instant.now.columns.now ≡ work.now.sizes.channels * work.now.sizes.outputs }
     requires both { length v.old ≡ vector_length work.now.sizes }
     ensures rule { Does (jumped_by N.Scalar.kind.ops (E.OdeEquations.model eqn.now) work.entry.now.sizes.channels (Some work.entry.now.sizes.outputs) instant.now.t instant.now.x.now instant.now.columns.now v.old) result v.old v.new }
@@ -46,7 +49,7 @@ fn jump_out<N: Scalar + Drop, E: OdeEquations<N>>(
     let lost = Product {
         mode: Mode::Lose,
         matrix: p,
-        rows: sizes.outputs,
+        rows,
         vectors: columns,
     };
     let (s, sg) = v.split_at_mut(sizes.channels * sizes.states);
@@ -81,13 +84,13 @@ pub fn apply_delta_g<N: Scalar + Drop, E: OdeEquations<N>>(
     let rows = outputs(eqn);
     let lengths = [
         (fills(instant.columns, channels, rows), Size::Columns),
-        vector_fits(eqn, channels, v),
+        vector_fits(eqn, states, channels, v),
         (instant.x.len() == states, Size::ForwardState),
         work.sizes.space_fits(eqn, channels),
     ];
     all_fit(eqn, channels, &lengths)?;
     match eqn.nout() {
-        Some(_) => jump_out(eqn, instant, v, work)?,
+        Some(rows) => jump_out(eqn, rows, instant, v, work)?,
         None => apply_delta_g_no_out(instant.columns, v),
     }
     Ok(())

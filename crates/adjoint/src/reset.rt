@@ -134,7 +134,7 @@ pub fn apply_reset_with_adjoint<N: Scalar + Drop, E: OdeEquations<N>>(
         (boundary.y.len() == states, Size::CheckpointState),
         (boundary.below.len() == states, Size::CheckpointSlope),
         (boundary.above.len() == states, Size::CheckpointSlope),
-        vector_fits(eqn, channels, v),
+        vector_fits(eqn, states, channels, v),
         work.sizes.space_fits(eqn, channels),
     ];
     all_fit(eqn, channels, &lengths)?;

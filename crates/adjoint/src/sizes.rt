@@ -14,7 +14,7 @@ use scalar::Scalar;
 pub(crate) fn outputs<N: Scalar, E: OdeEquations<N>>(eqn: &E) -> usize
     ensures { result ≡ rows_of (E.OdeEquations.model eqn.now) }
 {
-    eqn.nout().unwrap_or(eqn.nstates())
+    eqn.nout().unwrap_or_else(|| eqn.nstates())
 }
 
 fn within(low: usize, n: usize, high: usize) -> bool
@@ -34,15 +34,17 @@ fn is_both(entries: usize, n: usize, width: usize, other: usize) -> bool
 }
 
 // Whether a vector holds all s and all sg. Model and channels go side by side here, as they are handed to the rules: a struct
-// of the two would be made anew in each.
+// of the two would be made anew in each. A rule that has asked for the states already hands them on: a model may count them.
 pub(crate) fn vector_fits<N: Scalar, E: OdeEquations<N>>(
     eqn: &E,
+    states: usize,
     channels: usize,
     v: &[N],
 ) -> (bool, Size)
+    requires { states ≡ (E.OdeEquations.model eqn.now).states }
     ensures { result ≡ vector_fits N.Scalar.kind.ops (E.OdeEquations.model eqn.now) channels v.now }
 {
-    let fits = is_both(v.len(), channels, eqn.nstates(), eqn.nparams());
+    let fits = is_both(v.len(), channels, states, eqn.nparams());
     (fits, Size::Vector)
 }
 

@@ -47,7 +47,8 @@ pub struct Work<N: Drop> {
 fn zeros<N: Scalar + Drop>(heap: Global, n: usize) -> Result<Vec<N>, AllocError>
     ensures { IfOk result (λ v. vec_len v ≡ n) }
 {
-    vec![in heap; N::whole(0); n]
+    // not by `vec!`, which clones: a kind's own clone may fail where there is memory
+    (0..n).map(|_| N::whole(0)).collect(heap)
 }
 
 // Zeros for a matrix.

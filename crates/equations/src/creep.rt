@@ -26,7 +26,10 @@ impl<'a, N: Scalar> Creep<'a, N> {
     fn load(&self) -> N
         ensures { result ≡ load_of N.Scalar.kind.ops self.now }
     {
-        self.parameters.last().copied().unwrap_or(N::whole(0))
+        self.parameters
+            .last()
+            .copied()
+            .unwrap_or_else(|| N::whole(0))
     }
 
     // The rate of cell i; past the cells, zero.

@@ -7,5 +7,5 @@ use scalar::Scalar;
 pub(crate) fn entry<N: Scalar>(xs: &[N], i: usize) -> N
     ensures { result ≡ at N.Scalar.kind.ops xs.now i }
 {
-    xs.get(i).copied().unwrap_or(N::whole(0))
+    xs.get(i).copied().unwrap_or_else(|| N::whole(0))
 }

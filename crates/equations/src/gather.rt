@@ -26,8 +26,16 @@ pub fn gather<N: Scalar, E: OdeEquations<N>>(
     if columns == 0 {
         return Ok(());
     }
-    for (k, cell) in out.iter_mut().enumerate() {
-        *cell = eqn.derivative(op, wrt.column(k % columns), t, x, k / columns)?;
+    // row and column count along with the place, so that nothing is divided
+    let mut i = 0;
+    let mut j = 0;
+    for cell in out.iter_mut() {
+        *cell = eqn.derivative(op, wrt.column(j), t, x, i)?;
+        j += 1;
+        if j == columns {
+            j = 0;
+            i += 1;
+        }
     }
     Ok(())
 }

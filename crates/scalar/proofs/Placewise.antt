@@ -1,6 +1,7 @@
 -- A loop that goes over two lists place by place.
-use Rattle.std.proofs.Common.{◌≡◌, ℕ, zero, suc, ◌<◌, ◌≤◌, List, [], ◌∷◌, ◌++◌, length, get_or, take, drop, set, refl, ap, ◌∙◌, arith}
+use Rattle.std.proofs.Common.{◌≡◌, ℕ, zero, suc, ◌<◌, ◌≤◌, min, ◌⊎◌, List, [], ◌∷◌, ◌++◌, length, get_or, take, drop, set, sym, refl, ap, ◌∙◌, inl, inr, arith}
 use Rattle.std.proofs.lemmas.List.{take-append-drop, drop_all}
+use Rattle.std.proofs.lemmas.Bool.{cases_lt}
 use Rattle.scalar.specs.Vectors.{placewise}
 
 module _ {N : Type 0} (f : N → N → N) where
@@ -18,9 +19,17 @@ module _ {N : Type 0} (f : N → N → N) where
   alone [] = refl
   alone (y ∷ ys) = refl
 
-  -- past the end of the second list nothing is left to do
-  pub placewise_done : (ys xs : List N) (i : ℕ) → length xs ≤ i → partly ys xs i ≡ ys
-  placewise_done ys xs i h = rw (drop_all i xs h, alone, take-append-drop) refl
+  -- past the end of either list nothing is left to do
+  at_end : (ys xs : List N) (i : ℕ) → (length ys ≤ i) ⊎ (length xs ≤ i) → partly ys xs i ≡ ys
+  at_end ys xs i (inl h) = rw (drop_all i ys h) (ap (λ a. take i ys ++ a) (sym (drop_all i ys h)) ∙ take-append-drop i ys)
+  at_end ys xs i (inr h) = rw (drop_all i xs h, alone, take-append-drop) refl
+
+  pub placewise_all : (ys xs zs : List N) (i : ℕ) → length ys ≡ length zs → i ≡ min (length zs) (length xs) → partly ys xs i ≡ placewise f zs xs → ys ≡ placewise f zs xs
+  placewise_all ys xs zs i n e h = sym (at_end ys xs i (which (cases_lt (length ys) (length xs)))) ∙ h
+    where
+      which : (length ys < length xs) ⊎ (length xs ≤ length ys) → (length ys ≤ i) ⊎ (length xs ≤ i)
+      which (inl a) = inl (omega arith)
+      which (inr b) = inr (omega arith)
 
   pub length-placewise : (ys xs : List N) → length (placewise f ys xs) ≡ length ys
   length-placewise [] xs = refl

@@ -5,7 +5,7 @@ ghost use Rattle.scalar.specs.declared.matrix.SizeFault.TheVariants.{Matrix};
 ghost use Rattle.scalar.specs.Vectors.{product as product_of, minus_transposed, row_times, column_times, row_by_row, fills};
 
 use crate::Scalar;
-use crate::vectors::{dot, plus_scaled};
+use crate::vectors::dot;
 
 // The matrix has not as many entries as its rows and columns ask for; nothing was written.
 #[derive(Clone, Copy, Debug)]
@@ -68,7 +68,7 @@ impl<'a, N: Scalar> Rows<'a, N> {
     {
         let mut sum = N::whole(0);
         for (i, x) in v.iter().enumerate() {
-            sum = plus_scaled(sum, self.entry(i, j), *x);
+            sum = sum + self.entry(i, j) * *x;
         }
         sum
     }

@@ -10,7 +10,7 @@ pub fn sum<N: Scalar>(xs: &[N]) -> N
 {
     let mut sum = N::whole(0);
     for x in xs {
-        sum = plus(sum, *x);
+        sum = sum + *x;
     }
     sum
 }
@@ -22,21 +22,19 @@ pub fn dot<N: Scalar>(xs: &[N], ys: &[N]) -> N
 {
     let mut sum = N::whole(0);
     for (x, y) in xs.iter().zip(ys) {
-        sum = plus_scaled(sum, *x, *y);
+        sum = sum + *x * *y;
     }
     sum
 }
 
-// Replaces each y by f(y, x) at every place that both slices have. By place and not by `iter_mut().zip(xs)`, of which a
-// proof learns nothing about the elements that were written.
+// Replaces each y by f(y, x) at every place that both slices have, and looks at no other: one may be much longer. By place
+// and not by `iter_mut().zip(xs)`, of which a proof learns nothing about the elements that were written.
 fn combine<N: Copy, F: Fn(N, N) -> N>(ys: &mut [N], xs: &[N], f: F)
     requires { F.IsAlwaysCallable f }
     ensures { (op : N → N → N) → ((y x r : N) → F.post f y x r → r ≡ op y x) → ys.new ≡ placewise op ys.old xs.now }
 {
-    for (i, y) in ys.iter_mut().enumerate() {
-        if let Some(x) = xs.get(i) {
-            *y = f(*y, *x);
-        }
+    for i in 0..ys.len().min(xs.len()) {
+        ys[i] = f(ys[i], xs[i]);
     }
 }
 
@@ -52,7 +50,7 @@ fn minus<N: Scalar>(y: N, x: N) -> N
     y - x
 }
 
-pub(crate) fn plus_scaled<N: Scalar>(y: N, a: N, x: N) -> N
+fn plus_scaled<N: Scalar>(y: N, a: N, x: N) -> N
     ensures { result ≡ scaling N.Scalar.kind.ops a y x }
 {
     y + a * x

@@ -12,6 +12,10 @@ use crate::row::row;
 use crate::words::same_words;
 use std::alloc::Global;
 
+// How many numbers the first rows hold: about a power of two, whatever their width, so that the memory of a table's rows
+// grows as that of a list of numbers does.
+const FIRST: usize = 512;
+
 impl Part {
     // The names of the table's columns, in one line.
     pub(crate) fn names(self) -> &'static str
@@ -58,7 +62,7 @@ impl Lines<'_> {
         ensures rows { Tells (rows_of limit.most W self.old.number (lines_of self.old.rest.now)) (map_ok (λ rows. read_of (vec_items rows) self.new) result) }
         ensures lines { IfOk result (λ rows. self.old.number + vec_len rows ≤ self.new.number) }
     {
-        let mut rows = Vec::new(heap);
+        let mut rows = Vec::with_capacity(heap, FIRST / W.max(1) + 1)?;
         while let Some(line) = self.next() {
             if line.is_blank() {
                 break;

@@ -21,6 +21,7 @@ jump_out-requires g c =
     let made = is_made m n s right.1.1.1.0 in
     record {
       space = made.1;
+      rows = search rules;
       columns = rw (made.0, made.1.outputs) (eqb-true (length b.columns.now) (n * rows_of m) right.0);
       both = vector_is m n s (length v) made right.1.0;
     }

@@ -14,5 +14,7 @@ loop-x-preserved g c =
     let x : c.in-Some.x.now ≡ at o xs n = t.2 _ in
     let y : c.in-Some.y.now ≡ at o ys n = t.3 _ in
     let more : length (c.loop-x.yielded ++ (c.in-Some.x, c.in-Some.y) ∷ []) ≡ n + 1 = length-append c.loop-x.yielded _ in
+    let p = g.met.N.Scalar.muls _ _ c.mul.result c.mul.ensures in
+    let s = g.met.N.Scalar.adds _ _ c.add-sum.result c.add-sum.ensures in
     let e = sum_more o (λ i. o.times (at o xs i) (at o ys i)) n in
     cc
